@@ -9,9 +9,7 @@ use Rattle.std.specs.Str.Parse.{digits_value, without_leading_plus}
 use Rattle.clap.specs.Words.{Row, Text, all_of, first_of, one_of}
 use Rattle.command_line.specs.declared.settings.Command.{Command}
 use Rattle.command_line.specs.declared.settings.Command.TheVariants as command
-use Rattle.command_line.specs.declared.settings.AllEndings.{AllEndings}
 use Rattle.command_line.specs.declared.settings.Bytes.{Bytes}
-use Rattle.command_line.specs.declared.settings.Compare.{Compare}
 use Rattle.command_line.specs.declared.settings.Draw.{Draw}
 use Rattle.command_line.specs.declared.settings.Execution.{Execution}
 use Rattle.command_line.specs.declared.settings.FailOn.{FailOn}
@@ -149,14 +147,6 @@ fences_fail_on_in text = if bytes_eq text (codes "missing") then Some fences_fai
 abbrev pub fences_fail_on_given : List Row → Option FencesFailOn
 fences_fail_on_given rows = option_and_then fences_fail_on_in (first_of (codes "fail-on") rows)
 
--- the word after --until says that a search ends with a missing fence
-abbrev pub is_until_missing : Text → Bool
-is_until_missing text = bytes_eq text (codes "missing")
-
--- `fences` is given this word
-abbrev pub until_missing_given : List Row → Bool
-until_missing_given rows = option_map_or is_until_missing (first_of (codes "until") rows) false
-
 -- the line gives the option
 abbrev pub is_given : Text → List Row → Bool
 is_given id rows = is_some (first_of id rows)
@@ -277,18 +267,9 @@ pub record HoldsFences (rows : List Row) (fences : Fences) : Type 0 where
   pub first : fences.first ≡ number_or 0 (one_of (codes "first") rows)
   pub steps : fences.steps ≡ number_or 100000000 (one_of (codes "steps") rows)
   pub fail_on : fences.fail_on ≡ unwrap_or (fences_fail_on_given rows) fences_fail_on.Missing
-  pub until_missing : fences.until_missing ≡ until_missing_given rows
-  pub seconds : fences.seconds ≡ number_given 32 (one_of (codes "seconds") rows)
   pub keep : option_map (λ s. s.now) fences.keep ≡ first_of (codes "keep") rows
   pub accept : option_map (λ s. s.now) fences.accept ≡ first_of (codes "accept") rows
   pub as_if_fence : map (λ s. s.now) fences.as_if_fence.items ≡ texts_given (codes "as-if-fence") rows
-
-pub record HoldsAll (rows : List Row) (all : AllEndings) : Type 0 where
-  pub search : HoldsSearch rows all.search
-  pub steps : all.steps ≡ number_or 1000 (one_of (codes "steps") rows)
-  pub nodes : all.nodes ≡ number_or 100000 (one_of (codes "nodes") rows)
-  pub seconds : all.seconds ≡ number_given 32 (one_of (codes "seconds") rows)
-  pub keep : option_map (λ s. s.now) all.keep ≡ first_of (codes "keep") rows
 
 pub record HoldsShrink (rows : List Row) (shrink : Shrink) : Type 0 where
   pub search : HoldsSearch rows shrink.search
@@ -297,10 +278,6 @@ pub record HoldsShrink (rows : List Row) (shrink : Shrink) : Type 0 where
 pub record HoldsMerge (rows : List Row) (merge : Merge) : Type 0 where
   pub tables : map (λ s. s.now) merge.tables.items ≡ texts_given (codes "table") rows
   pub fail_on : merge.fail_on ≡ unwrap_or (fail_on_given rows) fail_on.Either
-
-pub record HoldsCompare (rows : List Row) (compare : Compare) : Type 0 where
-  pub old : compare.old.now ≡ unwrap_or (first_of (codes "old") rows) []
-  pub new : compare.new.now ≡ unwrap_or (first_of (codes "new") rows) []
 
 pub record HoldsPlan (rows : List Row) (plan : Plan) : Type 0 where
   pub number : plan.number ≡ number_or 0 (one_of (codes "number") rows)
@@ -335,8 +312,6 @@ HoldsNamed name rows (command.Hunt hunt) = (name ≡ codes "hunt") × HoldsHunt 
 HoldsNamed name rows (command.Shrink shrink) = (name ≡ codes "shrink") × HoldsShrink rows shrink
 HoldsNamed name rows (command.Merge merge) = (name ≡ codes "merge") × HoldsMerge rows merge
 HoldsNamed name rows (command.Fences fences) = (name ≡ codes "fences") × HoldsFences rows fences
-HoldsNamed name rows (command.All all) = (name ≡ codes "all") × HoldsAll rows all
-HoldsNamed name rows (command.Compare compare) = (name ≡ codes "compare") × HoldsCompare rows compare
 HoldsNamed name rows (command.Plan plan) = (name ≡ codes "plan") × HoldsPlan rows plan
 HoldsNamed name rows (command.Draw draw) = (name ≡ codes "draw") × HoldsDraw rows draw
 HoldsNamed name rows (command.Trace run) = (name ≡ codes "trace") × HoldsRun rows run
@@ -347,3 +322,10 @@ HoldsNamed name rows (command.Check check) = (name ≡ codes "check") × HoldsCh
 abbrev pub HoldsLine : Option (Text × List Row) → Command → Type 0
 HoldsLine None line = ⊥
 HoldsLine (Some met) line = HoldsNamed met.0 met.1 line
+
+-- the name is that of a subcommand
+abbrev pub IsSubcommand : Text → Type 0
+IsSubcommand name = (name ≡ codes "run") ⊎ (name ≡ codes "order") ⊎ (name ≡ codes "record")
+    ⊎ (name ≡ codes "replay") ⊎ (name ≡ codes "watch") ⊎ (name ≡ codes "migrate") ⊎ (name ≡ codes "gdb")
+    ⊎ (name ≡ codes "hunt") ⊎ (name ≡ codes "shrink") ⊎ (name ≡ codes "merge") ⊎ (name ≡ codes "fences")
+    ⊎ (name ≡ codes "plan") ⊎ (name ≡ codes "draw") ⊎ (name ≡ codes "trace") ⊎ (name ≡ codes "execution") ⊎ (name ≡ codes "check")

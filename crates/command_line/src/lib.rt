@@ -3,7 +3,6 @@
 
 mod asking;
 mod contradictions;
-mod endings;
 mod families;
 mod fences;
 mod given;
@@ -12,14 +11,12 @@ mod parsing;
 mod runs;
 mod seen;
 mod settings;
-mod usages;
 
 pub use asking::asked_by_options;
 pub use numbers::address_in;
 pub use parsing::parse_line;
 pub use settings::{
-    AllEndings, Bytes, Check, Command, Compare, Draw, Execution, FailOn, Fences, FencesFailOn, Gdb,
-    Hunt, HuntUntil, Merge, Migrate, Plan, PlanChoice, Print, Program, Record, Replay, Run, Search,
-    Shown, Shrink, Watch,
+    Bytes, Check, Command, Draw, Execution, FailOn, Fences, FencesFailOn, Gdb, Hunt, HuntUntil,
+    Merge, Migrate, Plan, PlanChoice, Print, Program, Record, Replay, Run, Search, Shown, Shrink,
+    Watch,
 };
-pub use usages::with_usage;

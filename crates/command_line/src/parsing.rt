@@ -1,14 +1,13 @@
 //! What the words of a command line say.
 ghost use Rattle.std.specs.Prelude.{◌≡◌, IfOk, Some, is_some, map};
 ghost use Rattle.clap.specs.Words.{FailsBy, found_of, kind_of, rows_of, subcommand_of};
-ghost use Rattle.command_options.specs.Options.{IsSubcommand, dethart_app};
+ghost use Rattle.command_options.specs.Options.{dethart_app};
 ghost use Rattle.command_line.specs.Faults.{has_bad_address, has_bad_word, has_no_bytes, line_fault, names_no_bytes, word_fault};
-ghost use Rattle.command_line.specs.Reading.{HoldsCheck, HoldsGdb, HoldsLine, HoldsMigrate, HoldsNamed, HoldsReplay, HoldsWatch, address_given, address_is_decimal, asks_of_a_hart, is_unread};
+ghost use Rattle.command_line.specs.Reading.{HoldsCheck, HoldsGdb, HoldsLine, HoldsMigrate, HoldsNamed, HoldsReplay, HoldsWatch, IsSubcommand, address_given, address_is_decimal, asks_of_a_hart, is_unread};
 
 use crate::contradictions::contradiction;
-use crate::endings::all_of;
-use crate::families::{compare_of, hunt_of, merge_of, plan_of, shrink_of};
-use crate::fences::{fences_of, has_bad_fail_on, has_bad_until};
+use crate::families::{has_bad_until, hunt_of, merge_of, plan_of, shrink_of};
+use crate::fences::{fences_of, has_bad_fail_on};
 use crate::given::{is_given, is_set};
 use crate::numbers::{address_in, is_decimal, number_given, number_of, wide_given, wide_number_of};
 use crate::runs::{draw_of, execution_of, has_bad_form, has_bad_show, print_of, record_of, run_of};
@@ -16,7 +15,7 @@ use crate::seen::{has_bad_bytes, seen_of, texts_of};
 use crate::settings::{Check, Command, Gdb, Migrate, Replay, Watch};
 use clap::error::ErrorKind;
 use clap::{ArgMatches, Error};
-use command_options::{command_for, subcommand_named};
+use command_options::{dethart_command, subcommand_named};
 use std::alloc::{AllocError, Global};
 
 /// What is said of an ADDRESS that is none.
@@ -37,9 +36,6 @@ const BAD_FAIL_ON: &str =
 /// What is said of a WHAT after `--until` that is none.
 const BAD_UNTIL: &str = "invalid value for '--until <WHAT>': it is bad or differ";
 
-/// What is said of a WHAT after `--until` of `fences` that is none.
-const BAD_FENCES_UNTIL: &str = "invalid value for '--until <WHAT>': it is missing";
-
 /// What is said of a WHAT after `--fail-on` of `fences` that is none.
 const BAD_FENCES_FAIL_ON: &str = "invalid value for '--fail-on <WHAT>': it is missing or never";
 
@@ -58,7 +54,7 @@ pub fn parse_line<'a>(alloc: Global, words: &'a [&'a str]) -> Result<Command<'a>
         s.now) words.entry.now))) }
     ensures fails { FailsBy (line_fault (map (λ s. s.now) words.entry.now)) result }
 {
-    let mut command = command_for(alloc, words)?;
+    let mut command = dethart_command(alloc)?;
     let matches = command.try_get_matches_from_mut(words)?;
     // `clap` refuses a line without a subcommand.
     let Some((name, found)) = matches.subcommand() else {
@@ -87,11 +83,11 @@ fn subcommand_of<'a>(
 }
 
 /// An error of a line of the subcommand of this name, with the usage of that.
-pub(crate) fn error_of(
+fn error_of(
     alloc: Global,
     name: &str,
     kind: ErrorKind,
-    text: &str,
+    text: &'static str,
 ) -> Result<Error, AllocError>
     ensures { IfOk result (λ error. kind_of error ≡ kind) }
 {
@@ -121,8 +117,6 @@ fn command_of<'a>(
         "shrink" => Command::Shrink(shrink_of(alloc, matches)?),
         "merge" => Command::Merge(merge_of(alloc, matches)?),
         "fences" => Command::Fences(fences_of(alloc, matches)?),
-        "all" => Command::All(all_of(alloc, matches)?),
-        "compare" => Command::Compare(compare_of(matches)),
         "plan" => Command::Plan(plan_of(matches)),
         "draw" => Command::Draw(draw_of(alloc, matches)?),
         "trace" => Command::Trace(run_of(matches)),
@@ -208,8 +202,8 @@ fn bad_word(name: &str, matches: &ArgMatches<'_>) -> Option<&'static str>
         Some(BAD_SHOW)
     } else if has_bad_fail_on(name, matches) {
         Some(bad_fail_on(name))
-    } else if has_bad_until(name, matches) {
-        Some(bad_until(name))
+    } else if has_bad_until(matches) {
+        Some(BAD_UNTIL)
     } else if has_bad_form(matches) {
         Some(BAD_FORM)
     } else {
@@ -223,15 +217,6 @@ fn bad_fail_on(name: &str) -> &'static str {
         BAD_FENCES_FAIL_ON
     } else {
         BAD_FAIL_ON
-    }
-}
-
-/// The same of a word after `--until`.
-fn bad_until(name: &str) -> &'static str {
-    if name == "fences" {
-        BAD_FENCES_UNTIL
-    } else {
-        BAD_UNTIL
     }
 }
 

@@ -23,10 +23,6 @@ pub enum Command<'a> {
     Merge(Merge<'a>),
     /// `fences IMAGE`: look for missing fences.
     Fences(Fences<'a>),
-    /// `all IMAGE`: search for all endings.
-    All(AllEndings<'a>),
-    /// `compare OLD NEW`: compare the tables of two hunts.
-    Compare(Compare<'a>),
     /// `plan N`: print a plan of the family.
     Plan(Plan),
     /// `draw IMAGE`: run a guest program, and draw the run.
@@ -237,7 +233,7 @@ pub struct Bytes {
     pub is_decimal: bool,
 }
 
-/// Runs of a program by plans of a family: a part of the words after `hunt`, `shrink`, `fences` and `all`.
+/// Runs of a program by plans of a family: a part of the words after `hunt`, `shrink` and `fences`.
 #[derive(Drop)]
 pub struct Search<'a> {
     /// The program that is run.
@@ -315,31 +311,12 @@ pub struct Fences<'a> {
     pub steps: u32,
     /// Which tables give another exit status.
     pub fail_on: FencesFailOn,
-    /// Whether the search is over with the first number for which a fence is missing.
-    pub until_missing: bool,
-    /// After how many seconds no number is begun, if there is such a limit.
-    pub seconds: Option<u32>,
     /// The path of the folder that the executions which are told are written to; none is written where there is none.
     pub keep: Option<&'a str>,
     /// The path of the file that has the places to leave out.
     pub accept: Option<&'a str>,
     /// The places before each of which a fence is thought of, as the line has them: addresses, or names of the image.
     pub as_if_fence: Vec<&'a str>,
-}
-
-/// The words after `all`.
-#[derive(Drop)]
-pub struct AllEndings<'a> {
-    /// The guest, and what tells its endings apart. Rounds, workers and a seed can't be given.
-    pub search: Search<'a>,
-    /// How many instructions of a hart are followed.
-    pub steps: u32,
-    /// How many nodes are gone through.
-    pub nodes: u32,
-    /// For how many seconds is searched, where there is such a limit.
-    pub seconds: Option<u32>,
-    /// The path of the folder that an execution of each ending is written to; none is written where there is none.
-    pub keep: Option<&'a str>,
 }
 
 /// The words after `shrink`.
@@ -358,15 +335,6 @@ pub struct Merge<'a> {
     pub tables: Vec<&'a str>,
     /// Which tables give another exit status.
     pub fail_on: FailOn,
-}
-
-/// The words after `compare`.
-#[derive(Clone, Copy, Drop)]
-pub struct Compare<'a> {
-    /// The path of the old build's table.
-    pub old: &'a str,
-    /// The path of the new build's table.
-    pub new: &'a str,
 }
 
 /// The words after `plan`.

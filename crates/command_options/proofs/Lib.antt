@@ -1,2 +1,1 @@
 mod Chains
-mod Naming

@@ -1,7 +1,7 @@
 -- The command line, as a command of clap.
-use Rattle.std.specs.Prelude.{◌≡◌, ◌⊎◌, List, [], ◌∷◌, Some, true, codes, fold, if◌then◌else◌, pos}
+use Rattle.std.specs.Prelude.{List, [], ◌∷◌, Some, true, codes, fold, if◌then◌else◌, pos}
 use Rattle.std.specs.Str.{bytes_eq}
-use Rattle.clap.specs.Words.{App, Rule, Text, fault_of, is_simple_and_free, new_app, new_rule, subcommand_of, with_rule, with_subcommand}
+use Rattle.clap.specs.Words.{App, Rule, Text, new_app, new_rule, with_rule, with_subcommand}
 use Rattle.clap.specs.declared.builder.action.ArgAction.TheVariants.{Append, SetTrue}
 use Rattle.clap.specs.declared.builder.value_parser.ValueParser.{ValueParser}
 use Rattle.clap.specs.declared.builder.value_parser.ValueParser.TheVariants as parser
@@ -161,33 +161,17 @@ hunt_rules =
     ∷ number_given_rule (codes "seconds")
     ∷ []
 
--- which executions are looked at for missing fences, and how far, which tables the exit status tells of, where the search is over before its
--- last number, where the executions that are told go, which places are left out, and where fences are thought of
+-- which executions are looked at for missing fences, and how far, which tables the exit status tells of, where the executions that are told
+-- go, which places are left out, and where fences are thought of
 abbrev pub fence_rules : List Rule
 fence_rules =
     number_rule (codes "plans") (codes "1000")
     ∷ number_rule (codes "first") (codes "0")
     ∷ number_rule (codes "steps") (codes "100000000")
     ∷ defaulted_rule (codes "fail-on") (codes "missing")
-    ∷ text_rule (codes "until")
-    ∷ number_given_rule (codes "seconds")
     ∷ text_rule (codes "keep")
     ∷ text_rule (codes "accept")
     ∷ repeated_rule (codes "as-if-fence")
-    ∷ []
-
--- what a guest reads whose endings are searched for, whether it is told how far that is, which bytes tell endings apart, how far the search
--- goes, and where the executions go
-abbrev pub all_rules : List Rule
-all_rules =
-    text_rule (codes "input")
-    ∷ flag_rule (codes "progress")
-    ∷ see_rule
-    ∷ object_rule
-    ∷ number_rule (codes "steps") (codes "1000")
-    ∷ number_rule (codes "nodes") (codes "100000")
-    ∷ number_given_rule (codes "seconds")
-    ∷ text_rule (codes "keep")
     ∷ []
 
 -- the numbers are of executions in which loads come early and stores late, of so many steps at most
@@ -201,10 +185,6 @@ shrink_rules = number_wanted_rule (codes "plan-number") ∷ []
 -- what `merge` takes
 abbrev pub merge_rules : List Rule
 merge_rules = several_rule (codes "table") ∷ fail_on_rule ∷ []
-
--- what `compare` takes
-abbrev pub compare_rules : List Rule
-compare_rules = positional_rule (codes "old") ∷ positional_rule (codes "new") ∷ []
 
 -- what `plan` takes
 abbrev pub family_rules : List Rule
@@ -327,12 +307,6 @@ merge_app = taking (codes "merge") merge_rules
 abbrev pub fences_app : App
 fences_app = with_rules (searching (codes "fences")) fence_rules
 
-abbrev pub all_app : App
-all_app = with_rules (taking (codes "all") (guest_rules harts_wanted)) all_rules
-
-abbrev pub compare_app : App
-compare_app = taking (codes "compare") compare_rules
-
 abbrev pub plan_app : App
 plan_app = taking (codes "plan") family_rules
 
@@ -369,11 +343,11 @@ recording_commands = replay_app ∷ watch_app ∷ migrate_app ∷ gdb_app ∷ []
 
 -- those that hunt
 abbrev pub hunting_commands : List App
-hunting_commands = hunt_app ∷ shrink_app ∷ merge_app ∷ fences_app ∷ all_app ∷ []
+hunting_commands = hunt_app ∷ shrink_app ∷ merge_app ∷ fences_app ∷ []
 
 -- the others
 abbrev pub other_commands : List App
-other_commands = compare_app ∷ plan_app ∷ draw_app ∷ trace_app ∷ []
+other_commands = plan_app ∷ draw_app ∷ trace_app ∷ []
 
 -- those of executions
 abbrev pub execution_commands : List App
@@ -392,8 +366,6 @@ named_app name = if bytes_eq name (codes "run") then run_app
     else if bytes_eq name (codes "shrink") then shrink_app
     else if bytes_eq name (codes "merge") then merge_app
     else if bytes_eq name (codes "fences") then fences_app
-    else if bytes_eq name (codes "all") then all_app
-    else if bytes_eq name (codes "compare") then compare_app
     else if bytes_eq name (codes "plan") then plan_app
     else if bytes_eq name (codes "draw") then draw_app
     else if bytes_eq name (codes "trace") then trace_app
@@ -412,17 +384,3 @@ with_other_commands = with_commands (with_commands with_recording_commands hunti
 
 abbrev pub dethart_app : App
 dethart_app = with_commands with_other_commands execution_commands
-
--- the subcommands by their names
-abbrev pub IsSubcommand : Text → Type 0
-IsSubcommand name = (name ≡ codes "run") ⊎ (name ≡ codes "order") ⊎ (name ≡ codes "record")
-    ⊎ (name ≡ codes "replay") ⊎ (name ≡ codes "watch") ⊎ (name ≡ codes "migrate") ⊎ (name ≡ codes "gdb")
-    ⊎ (name ≡ codes "hunt") ⊎ (name ≡ codes "shrink") ⊎ (name ≡ codes "merge") ⊎ (name ≡ codes "fences")
-    ⊎ (name ≡ codes "all") ⊎ (name ≡ codes "compare") ⊎ (name ≡ codes "plan") ⊎ (name ≡ codes "draw")
-    ⊎ (name ≡ codes "trace") ⊎ (name ≡ codes "execution") ⊎ (name ≡ codes "check")
-
--- by this command clap reads a line as by the one with all subcommands: the same words of the same subcommand, or the same kinds of error
-pub record ReadsAsAll (words : List Text) (app : App) : Type 0 where
-  pub simple : is_simple_and_free app ≡ true
-  pub subcommand : subcommand_of app words ≡ subcommand_of dethart_app words
-  pub fault : fault_of app words ≡ fault_of dethart_app words

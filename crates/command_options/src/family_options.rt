@@ -2,7 +2,7 @@
 ghost use Rattle.std.specs.Prelude.{◌≡◌, IfOk, false};
 ghost use Rattle.clap.specs.Words.{app_of};
 ghost use Rattle.clap.specs.declared.builder.command.Command.TheViews.{out-Command};
-ghost use Rattle.command_options.specs.Options.{compare_app, fences_app, hunt_app, merge_app, plan_app, searching, shrink_app};
+ghost use Rattle.command_options.specs.Options.{fences_app, hunt_app, merge_app, plan_app, searching, shrink_app};
 
 use crate::arguments::{
     Argument, HARTS, NARROW, PROGRESS, SAME_OF_OBJECT, SEED, STEPS, WEAK, WORKERS, with_arguments,
@@ -10,17 +10,13 @@ use crate::arguments::{
 use crate::program_options::{INPUT, guest_command, named_command};
 use clap::Command;
 use command_help::{
-    COMPARE_ABOUT, COMPARE_AFTER_HELP, FENCES_ABOUT, FENCES_AFTER_HELP, HUNT_ABOUT,
-    HUNT_AFTER_HELP, MERGE_ABOUT, MERGE_AFTER_HELP, PLAN_ABOUT, PLAN_AFTER_HELP, SHRINK_ABOUT,
-    SHRINK_AFTER_HELP,
+    FENCES_ABOUT, FENCES_AFTER_HELP, HUNT_ABOUT, HUNT_AFTER_HELP, MERGE_ABOUT, MERGE_AFTER_HELP,
+    PLAN_ABOUT, PLAN_AFTER_HELP, SHRINK_ABOUT, SHRINK_AFTER_HELP,
 };
 use std::alloc::{AllocError, Global};
 
 /// The option `--harts N`, which must be there: by its default of one hart every plan would come to the same ending.
-pub(crate) const HARTS_WANTED: Argument<'static> = Argument::NumberWanted(
-    "harts",
-    "Harts: 1 to 64",
-);
+const HARTS_WANTED: Argument<'static> = Argument::NumberWanted("harts", "Harts: 1 to 64");
 
 /// What a program is run with by plans of the family, and what is seen of each run.
 static SEARCHING: [Argument<'static>; 7] = [
@@ -57,7 +53,7 @@ static HUNT: [Argument<'static>; 7] = [
 ];
 
 /// Which executions are looked at, and how far, and what of the missing fences is told.
-static FENCES: [Argument<'static>; 9] = [
+static FENCES: [Argument<'static>; 7] = [
     Argument::Number(NARROW, "plans", "1000", "Executions: 1 to 4294967295"),
     Argument::Number(NARROW, "first", "0", "Number of the first execution"),
     Argument::Number(
@@ -72,8 +68,6 @@ static FENCES: [Argument<'static>; 9] = [
         "missing",
         "Exit with 5 or 4 on: missing or never",
     ),
-    Argument::Text("until", "WHAT", "End with the first find: missing"),
-    Argument::NumberGiven(NARROW, "seconds", "Begin no number after so many seconds"),
     Argument::Text(
         "keep",
         "DIR",
@@ -101,12 +95,6 @@ static MERGE: [Argument<'static>; 2] = [
         "A file that dethart hunt or dethart merge printed",
     ),
     FAIL_ON,
-];
-
-/// The tables of two hunts.
-static COMPARE: [Argument<'static>; 2] = [
-    Argument::Positional("old", "OLD", "The table of the old build"),
-    Argument::Positional("new", "NEW", "The table of the new build"),
 ];
 
 /// A plan of the family, and for how many harts.
@@ -155,15 +143,6 @@ pub(crate) fn merge_command<'a>(alloc: Global) -> Result<Command<'a>, AllocError
 {
     let command = named_command(alloc, "merge", MERGE_ABOUT, MERGE_AFTER_HELP);
     with_arguments(alloc, command, MERGE.as_slice())
-}
-
-/// The subcommand `compare`: the tables of two hunts.
-pub(crate) fn compare_command<'a>(alloc: Global) -> Result<Command<'a>, AllocError>
-    ensures app { IfOk result (λ command. app_of command ≡ compare_app) }
-    ensures local { IfOk result (λ command. (out-Command command).has_globals ≡ false) }
-{
-    let command = named_command(alloc, "compare", COMPARE_ABOUT, COMPARE_AFTER_HELP);
-    with_arguments(alloc, command, COMPARE.as_slice())
 }
 
 /// The subcommand `plan`: a plan of the family, and for how many harts.

@@ -54,8 +54,7 @@ pub(crate) fn answer_line(rt: &HostRuntime, error: clap::Error) -> Result<ExitSt
 fn unprinted(kind: io::ErrorKind) -> Failure
     ensures gone { kind ≡ kinds.BrokenPipe → result ≡ failures.ReaderGone }
     ensures failed { kind ≢ kinds.BrokenPipe → result ≡ failures.Refused RunError.SinkFailed }
-    ensures either { (result ≡ failures.Refused RunError.SinkFailed) ⊎
-        (result ≡ failures.ReaderGone) }
+    ensures either { (result ≡ failures.Refused RunError.SinkFailed) ⊎ (result ≡ failures.ReaderGone) }
 {
     match kind {
         io::ErrorKind::BrokenPipe => Failure::ReaderGone,

@@ -12,7 +12,7 @@ mod run;
 mod unfit;
 mod unread;
 
-use command_line::{Command, asked_by_options, parse_line, with_usage};
+use command_line::{Command, asked_by_options, parse_line};
 use debugging::serve_debugger;
 use failure::Failure;
 use line::{answer_line, arguments, texts_of};
@@ -62,7 +62,7 @@ fn obey_words<R: Threads + Wait + Sync>(
     let words = asked_by_options(rt.alloc(), words)?;
     match parse_line(rt.alloc(), words.as_slice()) {
         Ok(command) => Ok(obey(rt, threads, &command)),
-        Err(error) => answer_line(rt, with_usage(rt.alloc(), words.as_slice(), error)),
+        Err(error) => answer_line(rt, error),
     }
 }
 

@@ -4,16 +4,13 @@
 
 use crate::refusal::{finish, finish_printing};
 use crate::run::progress_of;
-use all_commands::{EndingsSearcher, all_command};
 use command_line::{
-    AllEndings, Check, Command, Compare, Draw, Execution, Fences, Hunt, Merge, Plan, Print, Replay,
-    Run, Shrink, Watch,
+    Check, Command, Draw, Execution, Fences, Hunt, Merge, Plan, Print, Replay, Run, Shrink, Watch,
 };
 use execution_commands::check_command;
 use host_io::RunError;
 use host_world::{HostFiles, HostMessages, HostOutput, Progress, WeakHunter};
 use hunt_commands::{Finds, hunt_command, merge_command, plan_command, shrink_command};
-use hunt_comparison::compare_command;
 use past_commands::{replay_command, watch_command};
 use program_files::ExitStatus;
 use run_commands::{order_command, run_command};
@@ -21,7 +18,7 @@ use std::sync::Wait;
 use std::thread::Threads;
 use view_commands::{draw_command, trace_command};
 use weak_commands::{
-    FenceFinds, FenceSearcher, FencesFailure, WeakExecuter, execution_command, fences_command,
+    FenceSearcher, FencesFailure, WeakExecuter, execution_command, fences_command,
 };
 
 /// Does what a command says that prints to standard output.
@@ -50,10 +47,8 @@ fn put_answer<R: Threads + Wait + Sync>(
         Command::Watch(asked) => put_watch(rt, threads, asked, out),
         Command::Hunt(asked) => put_hunt(rt, threads, asked, out),
         Command::Fences(asked) => put_fences(rt, threads, asked, out),
-        Command::All(asked) => put_all(rt, asked, out),
         Command::Shrink(asked) => put_shrunk(rt, threads, asked, out),
         Command::Merge(asked) => put_merged(rt, asked, out),
-        Command::Compare(asked) => put_compared(rt, asked, out),
         Command::Plan(asked) => put_plan(rt, asked, out),
         Command::Draw(asked) => put_drawing(rt, threads, asked, out),
         Command::Trace(run) => put_trace(rt, threads, run, out),
@@ -187,41 +182,12 @@ fn put_fences<R: Threads + Wait + Sync>(
     asked: &Fences<'_>,
     out: &mut HostOutput<'_>,
 ) -> ExitStatus {
-    let progress = Progress::of_hunt(
-        rt,
-        asked.search.program.progress,
-        asked.plans,
-        asked.search.program.workers,
-        asked.seconds,
-    );
-    let messages = HostMessages { rt };
-    let Ok(finds) = FenceFinds::new(rt.alloc(), asked, &progress, &messages) else {
-        return finish::<RunError>(rt, Err(RunError::OutOfMemory));
-    };
+    let mut progress = Progress::new(rt, asked.search.program.progress, asked.plans);
     let answer = fences_command(
         threads,
         rt.alloc(),
         &mut HostFiles { rt },
         &FenceSearcher,
-        asked,
-        &finds,
-        out,
-        &messages,
-    );
-    // A file that can't be written is no fault of the output.
-    let is_of_output = !matches!(answer, Err(FencesFailure::Unwritten(_)));
-    finish_printing(rt, out.reader_is_gone && is_of_output, answer)
-}
-
-/// Searches for all endings, and prints them.
-#[inline(never)]
-fn put_all(rt: &HostRuntime, asked: &AllEndings<'_>, out: &mut HostOutput<'_>) -> ExitStatus {
-    let told = asked.search.program.progress;
-    let mut progress = Progress::of_hunt(rt, told, asked.nodes, 1, asked.seconds);
-    let answer = all_command(
-        rt.alloc(),
-        &mut HostFiles { rt },
-        &EndingsSearcher,
         asked,
         &mut progress,
         out,
@@ -263,13 +229,6 @@ fn put_merged(rt: &HostRuntime, asked: &Merge<'_>, out: &mut HostOutput<'_>) -> 
         out,
         &HostMessages { rt },
     );
-    finish_printing(rt, out.reader_is_gone, answer)
-}
-
-/// Prints how the tables in two files differ.
-#[inline(never)]
-fn put_compared(rt: &HostRuntime, asked: &Compare<'_>, out: &mut HostOutput<'_>) -> ExitStatus {
-    let answer = compare_command(rt.alloc(), &HostFiles { rt }, asked, out);
     finish_printing(rt, out.reader_is_gone, answer)
 }
 

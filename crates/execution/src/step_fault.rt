@@ -7,9 +7,4 @@ pub enum StepFault {
     RoundFalls,
     /// The hart has stopped.
     HasStopped,
-    /// The instruction reads another number than the step's.
-    OtherNumber {
-        /// The number that it reads.
-        read: u64,
-    },
 }

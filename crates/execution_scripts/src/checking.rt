@@ -64,8 +64,7 @@ pub fn check_file(
     file: &ExecutionFile,
     asked: Option<HartStep>,
 ) -> Result<Checked, RunError>
-    ensures { IfOk result (λ c. IsFound (guest_in (as_recorded file.now))
-        (as_recorded file.now).harts (as_recorded file.now).order asked c.finding c) }
+    ensures { IfOk result (λ c. IsFound (guest_in (as_recorded file.now)) (as_recorded file.now).harts (as_recorded file.now).order asked c.finding c) }
 {
     let harts = file.harts.len();
     if harts < 1 || harts > MOST_HARTS as usize {

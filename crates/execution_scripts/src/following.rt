@@ -6,7 +6,7 @@ use crate::calls::{Taken, call_number, taken_at};
 use crate::fault::{Fault, Halt, Misfit};
 use crate::opening::open_execution;
 use elf_loader::Image;
-use execution_checker::{Execution, ScriptedStep, StepFault};
+use execution_checker::{Execution, ScriptedStep};
 use execution_file::{HartDeeds, Turn, number_shown};
 use hart_step::Stop;
 use pages::OutOfMemory;
@@ -30,14 +30,6 @@ pub(crate) struct Follower<'a> {
     courses: Vec<Course>,
     round: u32,
     script: Vec<ScriptedStep>,
-}
-
-/// Why a hart has no next step that reads the number that it said, or none.
-fn misfit_for(fault: StepFault, said: Option<u64>) -> Misfit {
-    match fault {
-        StepFault::OtherNumber { read } => misfit_of(read, said).unwrap_or(Misfit::Otherwise),
-        StepFault::NoSuchHart | StepFault::RoundFalls | StepFault::HasStopped => Misfit::NoStep,
-    }
 }
 
 /// Why a hart that said one number, or none, didn't read it.
@@ -127,7 +119,7 @@ impl<'a> Follower<'a> {
     /// Takes a step. The event of the instruction, which has this index in the list; none where the hart stopped.
     fn take(&mut self, step: ScriptedStep, index: usize) -> Result<Option<Event>, Halt> {
         match self.execution.take_step(step)? {
-            Some(fault) => Err(self.fault(step.hart, misfit_for(fault, step.number))),
+            Some(_) => Err(self.fault(step.hart, Misfit::NoStep)),
             None => Ok(self.execution.events().get(index).copied()),
         }
     }

@@ -2,8 +2,8 @@
 
 ghost use Rattle.std.specs.Prelude.{◌≡◌, ◌≤◌, [], length, slice_get, IfOk, MatchOption, OnOk};
 ghost use Rattle.pages.specs.Memory.{Memory};
-ghost use Rattle.execution.specs.Executions.{Executes, IsLike, Standing};
-ghost use Rattle.execution.specs.Progressing.{IsTaken};
+ghost use Rattle.execution.specs.Executions.{Executes, IsLike, Standing, Takes};
+ghost use Rattle.execution.specs.Progressing.{HasNoStep};
 ghost use Rattle.execution_checker.specs.Allowed.{BreaksAt, Follows};
 ghost use Rattle.execution_views.specs.Walks.{AreNotes, AreSights, IsNoted, is_asked_hart, is_asked_step};
 
@@ -78,7 +78,10 @@ fn take_noted(
 ) -> Result<Option<StepFault>, OutOfMemory>
     requires { notes.old.steps ≤ length notes.old.sights.pcs.items }
     ensures like { (image : Memory) → IsLike image execution.old.memory → IsLike image execution.new.memory }
-    ensures took { IfOk result (λ fault. IsTaken fault execution.old.memory step execution.old.standing execution.new.standing) }
+    ensures took { IfOk result (λ fault. MatchOption fault
+        ((image : Memory) → IsLike image execution.old.memory →
+        Takes image step.hart step.round execution.old.standing execution.new.standing)
+        (λ f. HasNoStep f step.hart step.round execution.old.standing × (execution.new.standing ≡ execution.old.standing))) }
     ensures notes { IfOk result (λ _. (image : Memory) (p : Standing) → IsLike image execution.old.memory →
         Executes image p execution.old.standing → AreNotes image p execution.old.standing asked notes.old →
         AreNotes image p execution.new.standing asked notes.new) }

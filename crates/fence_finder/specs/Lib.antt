@@ -1,3 +1,1 @@
-pub mod Finds
 pub mod MissingFences
-pub mod Telling

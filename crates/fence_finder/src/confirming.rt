@@ -1,12 +1,11 @@
 ghost use Rattle.std.specs.Prelude.{◌≡◌, IfOk, IfSome};
-ghost use Rattle.fence_finder.specs.MissingFences.{IsFault, IsShown};
+ghost use Rattle.fence_finder.specs.MissingFences.{IsShown};
 
 use crate::faults::failure_found;
 use crate::guest::Guest;
 use execution_scripts::{ExecutionFile, ScriptedGuest, execution_of_script};
-use fence_search::Weakness;
+use fence_search::{Departing, Found, Weakness};
 use fence_table::{Failure, Missing, NamedGap, Shown, TriedFence};
-use fence_trials::{Departing, Found, Ordinary};
 use pages::OutOfMemory;
 use timed_machine::TimedMachine;
 use weak_executions::{Verdict, check_by};
@@ -23,18 +22,14 @@ pub(crate) struct Confirmed {
 pub(crate) fn confirm(
     guest: &Guest<'_>,
     gap: NamedGap,
-    runs: &Ordinary,
     fence: TriedFence,
     weakness: &Weakness,
 ) -> Result<Option<Confirmed>, OutOfMemory>
-    ensures shown { IfOk result (λ found. IfSome found (λ c. IsShown guest.now.opening.image.now
+    ensures { IfOk result (λ found. IfSome found (λ c. IsShown guest.now.opening.image.now
         guest.now.opening.input.now guest.now.opening.harts.now c.missing.failure)) }
-    ensures fault { IfOk result (λ found. IfSome found (λ c. IsFault runs.now c.missing.failure)) }
-    ensures fence { IfOk result (λ found. IfSome found (λ c. c.missing.fence ≡ fence)) }
-    ensures numbers { IfOk result (λ found. IfSome found (λ c. c.missing.numbers ≡ weakness.now.numbers)) }
 {
     let machine = made_again(guest, &weakness.shown)?;
-    let confirmed = confirm_by(guest, gap, runs, fence, weakness, &machine);
+    let confirmed = confirm_by(guest, gap, fence, weakness, &machine);
     drop(machine);
     confirmed
 }
@@ -43,18 +38,14 @@ pub(crate) fn confirm(
 fn confirm_by(
     guest: &Guest<'_>,
     gap: NamedGap,
-    runs: &Ordinary,
     fence: TriedFence,
     weakness: &Weakness,
     machine: &TimedMachine,
 ) -> Result<Option<Confirmed>, OutOfMemory>
-    ensures shown { IfOk result (λ found. IfSome found (λ c. IsShown guest.now.opening.image.now
+    ensures { IfOk result (λ found. IfSome found (λ c. IsShown guest.now.opening.image.now
         guest.now.opening.input.now guest.now.opening.harts.now c.missing.failure)) }
-    ensures fault { IfOk result (λ found. IfSome found (λ c. IsFault runs.now c.missing.failure)) }
-    ensures fence { IfOk result (λ found. IfSome found (λ c. c.missing.fence ≡ fence)) }
-    ensures numbers { IfOk result (λ found. IfSome found (λ c. c.missing.numbers ≡ weakness.now.numbers)) }
 {
-    match failure_of(guest, runs, &weakness.shown, machine)? {
+    match failure_of(guest, &weakness.shown, machine)? {
         Some(failure) => {
             let missing = told_of(guest, gap, fence, weakness, failure)?;
             let execution = file_of(guest, &weakness.shown, machine)?;
@@ -75,12 +66,10 @@ fn made_again(guest: &Guest<'_>, shown: &Found) -> Result<TimedMachine, OutOfMem
 /// How a machine's execution fails, where RVWMO allows it.
 fn failure_of(
     guest: &Guest<'_>,
-    runs: &Ordinary,
     shown: &Found,
     machine: &TimedMachine,
 ) -> Result<Option<Failure>, OutOfMemory>
-    ensures fault { IfOk result (λ found. IfSome found (IsFault runs.now)) }
-    ensures shown { IfOk result (λ found. IfSome found (IsShown guest.now.opening.image.now
+    ensures { IfOk result (λ found. IfSome found (IsShown guest.now.opening.image.now
         guest.now.opening.input.now guest.now.opening.harts.now)) }
 {
     let Some(record) = machine.record() else {
@@ -90,7 +79,7 @@ fn failure_of(
     let seen = seen_of(guest.alloc, machine.pages(), ranges)?;
     let finding = check_by(guest.alloc, &guest.opening, record, shown.placing)?;
     match finding.verdict {
-        Verdict::Allowed => failure_found(guest, runs, shown.failing, seen, finding),
+        Verdict::Allowed => failure_found(guest, shown.failing, seen, finding),
         _ => Ok(None),
     }
 }
@@ -103,9 +92,7 @@ fn told_of(
     weakness: &Weakness,
     failure: Failure,
 ) -> Result<Missing, OutOfMemory>
-    ensures failure { IfOk result (λ m. m.failure ≡ failure) }
-    ensures fence { IfOk result (λ m. m.fence ≡ fence) }
-    ensures numbers { IfOk result (λ m. m.numbers ≡ weakness.now.numbers) }
+    ensures { IfOk result (λ m. m.failure ≡ failure) }
 {
     let shown = &weakness.shown;
     Ok(Missing {

@@ -1,172 +1,132 @@
-ghost use Rattle.std.specs.Prelude.{◌≡◌, ◌⊎◌, ◌+◌, ◌<◌, ◌^◌, ℕ, [], ◌∷◌, ◌++◌, IfErr, IfOk, OnOk};
+ghost use Rattle.std.specs.Prelude.{◌≡◌, ◌⊎◌, ℕ, [], ◌∷◌, ◌++◌, IfErr, IfOk, OnOk};
 ghost use Rattle.std.specs.Bool.{OnTrue};
-ghost use Rattle.fence_finder.specs.MissingFences.{AreMissing, AreShown, IsUsual, missing_plans};
-ghost use Rattle.fence_search.specs.Gathered.{plans_of};
+ghost use Rattle.fence_finder.specs.MissingFences.{AreShown};
 ghost use Rattle.host_io.specs.declared.error.RunError.TheVariants as refusals;
 ghost use Rattle.hunter.specs.declared.error.HuntError.TheVariants as hunting;
 ghost use Rattle.weak_hunter.specs.declared.error.WeakHuntError.TheVariants.{Hunt, Unconfirmed};
 
 use crate::confirming::{Confirmed, confirm};
 use crate::guest::Guest;
-use crate::usual::check_usual;
 use execution_scripts::ExecutionFile;
-use fence_kinds::Place;
-use fence_search::{Search, Weakness};
+use fence_search::{Compared, Search, Weakness};
 use fence_table::{Missing, Tally, TriedFence};
-use fence_trials::Executer;
 use pages::OutOfMemory;
-use std::alloc::Global;
 use std::thread::Threads;
 use weak_hunter::WeakHuntError;
 
 /// What a search found, as far as the checker of executions confirms it.
 #[derive(Drop)]
 pub(crate) struct Findings {
+    /// Numbers that fail without departures too.
+    pub ordinary: Tally,
+    /// Numbers that fail only with departures, but by interleavings.
+    pub unnamed: Tally,
+    /// Numbers whose executions were cut off while harts ran.
+    pub running: Tally,
     /// Numbers that fail for want of a fence at a gap that is accepted.
     pub accepted: Tally,
     /// At which other gaps fences are missing.
     pub missing: Vec<Missing>,
     /// The executions that show them, where they are kept.
     pub executions: Vec<ExecutionFile>,
+    /// With what of ordinary runs the executions were compared.
+    pub compared: Compared,
+}
+
+/// The numbers of two tallies that have none in common.
+fn joined(tally: Tally, other: Tally) -> Tally {
+    if tally.plans == 0 {
+        return other;
+    }
+    Tally {
+        plans: tally.plans.saturating_add(other.plans),
+        first: tally.first.min(other.first),
+    }
 }
 
 impl Findings {
-    /// Nothing.
-    fn none(alloc: Global) -> Findings
-        ensures accepted { result.accepted.plans ≡ 0 }
-        ensures missing { result.missing.items ≡ [] }
-    {
-        Findings {
-            accepted: Tally::none(),
-            missing: Vec::new(alloc),
-            executions: Vec::new(alloc),
-        }
-    }
-
-    /// What is left of a search once each execution that it shows is put to the checker of executions, and an ordinary run too where it shows
-    /// one.
+    /// What is left of a search once each execution that it shows is put to the checker of executions.
     ///
     /// # Errors
     ///
-    /// `Unconfirmed` with the number of the first one that the checker doesn't allow, or that it finds to end otherwise, or of one that fails
-    /// with any fence; `OutOfMemory`.
-    pub(crate) fn of<E: Executer + Sync, R: Threads + Sync>(
+    /// `Unconfirmed` with the number of the first one that the checker doesn't allow, or that it finds to end otherwise; `OutOfMemory`.
+    pub(crate) fn of<R: Threads + Sync>(
         rt: &R,
-        executer: &E,
         guest: &Guest<'_>,
-        workers: u32,
         search: &Search,
     ) -> Result<Findings, WeakHuntError>
-        requires few { plans_of search.now.weaknesses.items < 2 ^ 32 }
-        requires below { guest.now.extent.first + search.now.done < 2 ^ 32 }
         ensures shown { IfOk result (λ f. AreShown guest.now.opening.image.now guest.now.opening.input.now
             guest.now.opening.harts.now f.missing.items) }
-        ensures missing { IfOk result (λ f. AreMissing E.comes_to guest.now.maker search.now.runs
-            guest.now.extent.first search.now.done f.missing.items) }
-        ensures usual { IfOk result (λ f. (f.missing.items ≡ []) ⊎ IsUsual guest.now.opening.image.now
-            guest.now.opening.input.now guest.now.opening.harts.now search.now.runs) }
-        ensures none_lost { IfOk result (λ f. missing_plans f.missing.items + f.accepted.plans
-            ≡ plans_of search.now.weaknesses.items) }
         ensures errors { IfErr result (λ e. (e ≡ Hunt (hunting.Run refusals.OutOfMemory)) ⊎
             ((n : ℕ) × (e ≡ Unconfirmed n))) }
     {
-        let mut findings = Findings::none(guest.alloc);
-        if search.weaknesses.is_empty() {
-            return Ok(findings);
-        }
-        check_usual(guest, &search.runs)?;
-        findings.add_all(rt, executer, guest, workers, search)?;
+        let mut findings = Findings {
+            ordinary: search.ordinary,
+            unnamed: search.unnamed,
+            running: search.running,
+            accepted: Tally { plans: 0, first: 0 },
+            missing: Vec::new(guest.alloc),
+            executions: Vec::new(guest.alloc),
+            compared: search.compared(),
+        };
+        findings.add_all(rt, guest, search)?;
         Ok(findings)
     }
 
     /// Adds missing fences, where none was added before.
-    fn add_all<E: Executer + Sync, R: Threads + Sync>(
+    fn add_all<R: Threads + Sync>(
         &mut self,
         rt: &R,
-        executer: &E,
         guest: &Guest<'_>,
-        workers: u32,
         search: &Search,
     ) -> Result<(), WeakHuntError>
-        requires none { self.old.missing.items ≡ [] }
-        requires accepted { self.old.accepted.plans ≡ 0 }
-        requires few { plans_of search.now.weaknesses.items < 2 ^ 32 }
-        requires below { guest.now.extent.first + search.now.done < 2 ^ 32 }
+        requires { self.old.missing.items ≡ [] }
         ensures shown { OnOk result (AreShown guest.now.opening.image.now guest.now.opening.input.now
             guest.now.opening.harts.now self.new.missing.items) }
-        ensures missing { OnOk result (AreMissing E.comes_to guest.now.maker search.now.runs
-            guest.now.extent.first search.now.done self.new.missing.items) }
-        ensures none_lost { OnOk result (missing_plans self.new.missing.items + self.new.accepted.plans
-            ≡ plans_of search.now.weaknesses.items) }
         ensures errors { IfErr result (λ e. (e ≡ Hunt (hunting.Run refusals.OutOfMemory)) ⊎
             ((n : ℕ) × (e ≡ Unconfirmed n))) }
     {
         for weakness in &search.weaknesses {
-            self.add(rt, executer, guest, workers, search, weakness)?;
+            if !self.add(rt, guest, search, weakness)? {
+                return Err(WeakHuntError::Unconfirmed(weakness.shown.number));
+            }
         }
         Ok(())
     }
 
-    /// Adds a missing fence, where the checker of executions allows the execution that shows it.
-    fn add<E: Executer + Sync, R: Threads + Sync>(
+    /// Adds a missing fence, if the checker of executions allows the execution that shows it. Says whether it does.
+    fn add<R: Threads + Sync>(
         &mut self,
         rt: &R,
-        executer: &E,
         guest: &Guest<'_>,
-        workers: u32,
         search: &Search,
         weakness: &Weakness,
-    ) -> Result<(), WeakHuntError>
-        requires few { self.old.accepted.plans + weakness.now.numbers.plans < 2 ^ 32 }
-        requires below { guest.now.extent.first + search.now.done < 2 ^ 32 }
-        requires shown { AreShown guest.now.opening.image.now guest.now.opening.input.now
+    ) -> Result<bool, OutOfMemory>
+        requires { AreShown guest.now.opening.image.now guest.now.opening.input.now
             guest.now.opening.harts.now self.old.missing.items }
-        requires missing { AreMissing E.comes_to guest.now.maker search.now.runs
-            guest.now.extent.first search.now.done self.old.missing.items }
-        ensures shown { OnOk result (AreShown guest.now.opening.image.now guest.now.opening.input.now
-            guest.now.opening.harts.now self.new.missing.items) }
-        ensures missing { OnOk result (AreMissing E.comes_to guest.now.maker search.now.runs
-            guest.now.extent.first search.now.done self.new.missing.items) }
-        ensures one_more { OnOk result (missing_plans self.new.missing.items + self.new.accepted.plans
-            ≡ missing_plans self.old.missing.items + self.old.accepted.plans + weakness.now.numbers.plans) }
-        ensures errors { IfErr result (λ e. (e ≡ Hunt (hunting.Run refusals.OutOfMemory)) ⊎
-            ((n : ℕ) × (e ≡ Unconfirmed n))) }
+        ensures { IfOk result (λ yes. OnTrue yes (AreShown guest.now.opening.image.now
+            guest.now.opening.input.now guest.now.opening.harts.now self.new.missing.items)) }
     {
-        let gap = guest.gap_between(weakness.earlier, weakness.later)?;
+        let gap = guest.gap(weakness)?;
         if guest.settings.accepted.has(guest.alloc, &gap)? {
-            self.accepted = self.accepted.joined(weakness.numbers);
-            return Ok(());
+            self.accepted = joined(self.accepted, weakness.numbers);
+            return Ok(true);
         }
-        let place = Place {
-            guest: &guest.maker,
-            runs: &search.runs,
-            weakness,
-            first: guest.extent.first,
-            count: search.done,
-            workers,
-        };
-        let unconfirmed = WeakHuntError::Unconfirmed(weakness.shown.number);
-        let Some(kind) = place.weakest_fence(rt, executer)? else {
-            return Err(unconfirmed);
-        };
         let fence = TriedFence {
-            kind,
+            kind: search.fence_at(rt, &guest.maker, weakness, guest.numbers)?,
             pc: weakness.pc(),
-            executions: search.done,
+            executions: guest.numbers.count,
         };
-        match confirm(guest, gap, &search.runs, fence, weakness)? {
-            Some(confirmed) => {
-                self.put(confirmed)?;
-                Ok(())
-            }
-            None => Err(unconfirmed),
-        }
+        let Some(confirmed) = confirm(guest, gap, fence, weakness)? else {
+            return Ok(false);
+        };
+        self.put(confirmed)?;
+        Ok(true)
     }
 
     /// Puts a missing fence that was confirmed with the others.
     fn put(&mut self, confirmed: Confirmed) -> Result<(), OutOfMemory>
-        ensures missing { OnOk result (self.new.missing.items ≡ self.old.missing.items ++ confirmed.missing ∷ []) }
-        ensures accepted { OnOk result (self.new.accepted ≡ self.old.accepted) }
+        ensures { OnOk result (self.new.missing.items ≡ self.old.missing.items ++ confirmed.missing ∷ []) }
     {
         let Confirmed { missing, execution } = confirmed;
         if let Some(execution) = execution {

@@ -1,8 +1,7 @@
-ghost use Rattle.std.specs.Prelude.{◌≡◌, ◌≤◌, ◌+◌, ◌<◌, ◌^◌, length};
+ghost use Rattle.std.specs.Prelude.{◌≤◌, ◌+◌, ◌<◌, ◌^◌, length};
 
 use crate::settings::FenceSettings;
-use fence_trials::FenceGuest;
-use plan_hunt::Extent;
+use fence_search::{FenceGuest, Numbers};
 use std::alloc::Global;
 use weak_executions::Opening;
 
@@ -18,7 +17,7 @@ pub(crate) struct Guest<'a> {
     /// What makes the executions.
     pub maker: FenceGuest<'a>,
     /// Which of them.
-    pub extent: Extent,
+    pub numbers: Numbers,
     ghost few: { length opening.harts.now ≤ 64 },
-    ghost below: { extent.first + extent.most < 2 ^ 32 },
+    ghost below: { numbers.first + numbers.count < 2 ^ 32 },
 }

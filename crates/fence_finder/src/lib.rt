@@ -1,5 +1,5 @@
 //! The finder of missing fences: a guest's executions are made by their numbers, and of those that fail for want of a fence the gaps
-//! are told. The checker of executions says that RVWMO allows each execution that is shown, and an ordinary run beside it.
+//! are told. The checker of executions says that RVWMO allows each execution that is shown.
 #![tactic(auto)]
 
 mod confirming;
@@ -7,13 +7,9 @@ mod faults;
 mod finding;
 mod findings;
 mod guest;
-mod looking;
-mod observing;
 mod settings;
 mod sites;
-mod usual;
 
-pub use fence_trials::{Compared, Executer, FenceGuest, TimedExecuter};
-pub use finding::{FenceFinder, FoundFences};
-pub use observing::{FenceObserver, UnobservedSearch};
+pub use fence_search::{Compared, FenceObserver, UnobservedSearch};
+pub use finding::{FoundFences, find_fences};
 pub use settings::FenceSettings;

@@ -1,4 +1,1 @@
-pub mod Counting
-pub mod Gathered
-pub mod Places
-pub mod Searching
+pub mod Well

@@ -1,3 +1,4 @@
+pub mod Checksums
 pub mod Files
 pub mod Stores
 pub mod Answers

@@ -2,6 +2,7 @@
 #![tactic(auto)]
 
 mod answering;
+mod checksum;
 mod commands;
 mod comparing;
 mod covering;

@@ -2,14 +2,11 @@
 ghost use Rattle.std.specs.Prelude.{◌↔◌, IsTrue};
 ghost use Rattle.all_endings.specs.Factorizing.{IsOpenCall};
 ghost use Rattle.all_endings.specs.Halting.{KnowsRegisters};
-ghost use Rattle.all_endings.specs.Locality.{filled};
-ghost use Rattle.all_endings.specs.Stopping.{stop_at};
 ghost use Rattle.hart_moves.specs.States.{state_of};
 
 use crate::moving::instruction_at;
 use crate::registers::known;
 use crate::run_state::RunState;
-use hart_step::Stop;
 use pages::Pages;
 use rv64_decode::{Instr, Reg};
 
@@ -23,13 +20,6 @@ pub fn knows_registers(state: &RunState) -> bool
         }
     }
     true
-}
-
-/// The stop of a run's next instruction, with 0 for each unknown register. Where all are known, it can stop in no other way.
-pub fn stop_of(pages: &Pages, state: &RunState) -> Option<Stop>
-    ensures { result ≡ stop_at pages.now.memory (filled state.now.registers) state.now.pc }
-{
-    None
 }
 
 /// Whether the next instruction is a call whose number is unknown.

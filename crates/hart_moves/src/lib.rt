@@ -9,15 +9,13 @@ mod ending;
 mod following;
 mod listed_store;
 mod moving;
-mod offering;
 mod operating;
 mod reading;
 mod registers;
 mod run_state;
 mod touching;
 
-pub use ending::{is_open_call, knows_registers, stop_of};
+pub use ending::{is_open_call, knows_registers};
 pub use listed_store::ListedStore;
 pub use moving::{Reached, Successor, moves};
-pub use offering::offers;
 pub use run_state::{RunState, start};

@@ -2,9 +2,7 @@
 
 ghost use Rattle.std.specs.Prelude.{◌≡◌, None, false};
 
-use endings_finder::EndingsObserver;
 use fence_finder::FenceObserver;
-use fence_table::NamedGap;
 use hunter::{HuntObserver, ShrinkObserver};
 use machine::{Observer, UntracedMachine};
 use plan_hunt::{Row, are_well};
@@ -118,17 +116,6 @@ impl<'a> Progress<'a> {
         next
     }
 
-    /// Tells how far a search for missing fences is.
-    fn tell_fences(&self) {
-        if let Some(seconds) = self.next_second() {
-            let (done, all) = (self.plans.load(Ordering::SeqCst), self.all);
-            let failing = self.endings.load(Ordering::SeqCst);
-            let _unwritten = eprint!(self.rt;
-                "\rnumber {done} of {all}, {failing} fail for want of a fence, {seconds} s\x1b[K"
-            );
-        }
-    }
-
     /// Tells how far a hunt is.
     fn tell_hunt(&self) {
         let Some(seconds) = self.next_second() else {
@@ -218,34 +205,14 @@ impl HuntObserver for Progress<'_> {
 }
 
 impl FenceObserver for Progress<'_> {
-    fn before_block(&self, _done: u32, failing: usize) -> u32 {
-        self.endings.store(failing as u64, Ordering::SeqCst);
-        self.tell_fences();
-        self.next_block()
-    }
-
-    fn has_time(&self) -> bool {
-        HuntObserver::has_time(self)
-    }
-
-    fn after_number(&self) {
-        if self.clock.is_some() {
-            let _before = self.plans.fetch_add(1, Ordering::SeqCst);
-            self.tell_fences();
-        }
-    }
-
-    fn found(&self, _gap: &NamedGap, _number: u32) {}
-}
-
-impl EndingsObserver for Progress<'_> {
-    fn look(&mut self, nodes: u64, stores: u64, endings: u64) -> bool {
+    fn before_block(&mut self, done: u32, failing: usize) -> u32 {
         if let Some(seconds) = self.next_second() {
+            let all = self.all;
             let _unwritten = eprint!(self.rt;
-                "\r{nodes} nodes, up to {stores} stores, {endings} endings, {seconds} s\x1b[K"
+                "\rnumber {done} of {all}, {failing} fail for want of a fence, {seconds} s\x1b[K"
             );
         }
-        HuntObserver::has_time(self)
+        self.next_block()
     }
 }
 

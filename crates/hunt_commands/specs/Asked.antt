@@ -8,7 +8,6 @@ use Rattle.host_io.specs.declared.load_error.LoadError.{LoadError as ImageCause}
 use Rattle.hunt_commands.specs.declared.failure.HuntFailure.{HuntFailure}
 use Rattle.hunt_commands.specs.declared.failure.HuntFailure.TheVariants.{Naming, Refused, Run}
 use Rattle.hunt_commands.specs.Settings.{HasEnd, HasNumbers, HasRanges, IsNamed}
-use Rattle.hunt_table.specs.Programs.{fingerprint_of}
 use Rattle.hunt_table.specs.Text.{table_text, with_count}
 use Rattle.hunter.specs.Hunts.{IsHuntReason, IsHunted, IsImageCause, hunt_fault}
 use Rattle.hunter.specs.declared.error.HuntError.{HuntError}
@@ -38,7 +37,6 @@ pub record SetHunt (weakly : HuntSettings → List ℕ → List ℕ → ℕ → 
   pub rows : List Row
   pub numbers : HasNumbers asked.search asked.first asked.plans asked.weak settings
   pub ends : HasEnd asked settings
-  pub program : settings.header.program ≡ Some (fingerprint_of image)
   pub ranges : HasRanges asked.search image settings
   pub table : IsTableBy weakly asked.steps asked.weak settings image input done rows
 

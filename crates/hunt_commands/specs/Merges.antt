@@ -10,7 +10,7 @@ use Rattle.hunt_commands.specs.declared.merge_failure.MergeFailure.TheVariants a
 use Rattle.hunt_commands.specs.declared.neighbours.Apart.{Apart}
 use Rattle.hunt_commands.specs.declared.neighbours.Apart.TheVariants as causes
 use Rattle.hunt_commands.specs.declared.table_files.TableFile.{TableFile}
-use Rattle.hunt_table.specs.Merging.{AreApart, AreMerged, IsFirstNoTable, IsFirstOfOther, IsNoTable, IsOfHunt, harts_of}
+use Rattle.hunt_table.specs.Merging.{AreApart, AreMerged, IsFirstNoTable, IsNoTable, IsOfHunt, harts_of}
 use Rattle.hunt_table.specs.Text.{IsTextOf, table_text}
 use Rattle.hunt_table.specs.declared.merge_error.MergeError.{MergeError}
 use Rattle.hunt_table.specs.declared.merge_error.MergeError.TheVariants as merging
@@ -71,7 +71,7 @@ pub record AskedMerge (holds : List ℕ → List ℕ → Type 0) (asked : Merge)
 
 -- a table is of the same hunt as another one
 abbrev pub IsOfHuntOf : Table → Table → Type 0
-IsOfHuntOf last next = IsOfHunt last.header.program last.header.is_weak last.header.seed last.header.ranges.items (harts_of last.rows.items) next
+IsOfHuntOf last next = IsOfHunt last.header.is_weak last.header.seed last.header.ranges.items (harts_of last.rows.items) next
 
 -- the plan after the last one of a table
 abbrev pub end_of : Table → ℕ
@@ -84,15 +84,12 @@ pub record GoesOn (last next : Table) : Type 0 where
 
 -- it isn't, for this cause and for none of those before it
 abbrev pub IsApart : Apart → Table → Table → Type 0
-IsApart causes.Program last next = next.header.program ≢ last.header.program
-IsApart causes.Kind last next = (next.header.program ≡ last.header.program) × (next.header.is_weak ≢ last.header.is_weak)
-IsApart causes.Seed last next =
-    (next.header.program ≡ last.header.program) × (next.header.is_weak ≡ last.header.is_weak) × (next.header.seed ≢ last.header.seed)
+IsApart causes.Kind last next = next.header.is_weak ≢ last.header.is_weak
+IsApart causes.Seed last next = (next.header.is_weak ≡ last.header.is_weak) × (next.header.seed ≢ last.header.seed)
 IsApart causes.Bytes last next =
-    (next.header.program ≡ last.header.program) × (next.header.is_weak ≡ last.header.is_weak) × (next.header.seed ≡ last.header.seed)
-    × (next.header.ranges.items ≢ last.header.ranges.items)
+    (next.header.is_weak ≡ last.header.is_weak) × (next.header.seed ≡ last.header.seed) × (next.header.ranges.items ≢ last.header.ranges.items)
 IsApart causes.Harts last next =
-    (next.header.program ≡ last.header.program) × (next.header.is_weak ≡ last.header.is_weak) × (next.header.seed ≡ last.header.seed) × (next.header.ranges.items ≡ last.header.ranges.items)
+    (next.header.is_weak ≡ last.header.is_weak) × (next.header.seed ≡ last.header.seed) × (next.header.ranges.items ≡ last.header.ranges.items)
     × (harts_of next.rows.items ≢ harts_of last.rows.items)
 IsApart causes.Gap last next = IsOfHuntOf last next × (end_of last < next.header.first)
 IsApart causes.Overlap last next = IsOfHuntOf last next × (next.header.first < end_of last)
@@ -158,7 +155,6 @@ abbrev pub IsRefusal : MergeError → List (Vec ℕ) → Type 0
 IsRefusal (merging.Run error) texts = ⊥
 IsRefusal merging.NotATable texts = IsFirstNoTable texts
 IsRefusal merging.Apart texts = AreApart texts
-IsRefusal merging.OtherProgram texts = IsFirstOfOther texts
 
 -- why the tables of these files aren't merged: two are apart, or else the merge is refused; or memory is, or the output can't be written
 abbrev pub IsMergeEnd : List TableFile → MergeFailure → Type 0

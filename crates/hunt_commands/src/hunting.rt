@@ -1,8 +1,6 @@
 ghost use Rattle.std.specs.Prelude.{◌≡◌, ◌⊎◌, ◌++◌, IfErr, IfOk, OnErr};
 ghost use Rattle.host_io.specs.Taken.{BeganText};
 ghost use Rattle.hunt_commands.specs.Asked.{AskedHunt, EndsHunt, IsHuntEnd, SetHunt, hunt_text};
-ghost use Rattle.program_files.specs.Failures.{IsUnprinted};
-ghost use Rattle.hunt_commands.specs.Failures.{failure_number};
 ghost use Rattle.hunt_commands.specs.Status.{hunt_status};
 
 use crate::failure::HuntFailure;
@@ -53,9 +51,6 @@ pub fn hunt_command<
     ensures begun { OnErr result ((O.took out.new ≡ O.took out.old) ⊎
         ((a : AskedHunt (F.holds files.now) (F.begins files.now) W.hunts asked.now) ×
         BeganText (O.took out.old) (O.took out.new) (hunt_text a.made))) }
-    // After a refusal for another cause than memory and the output nothing was printed.
-    ensures unprinted { IfErr result (λ f.
-        IsUnprinted (failure_number f) (O.took out.old) (O.took out.new)) }
     ensures errors { IfErr result (EndsHunt (F.holds files.now) (F.begins files.now) asked.now) }
 {
     let given = read_program(files, alloc, &asked.search.program)?;
@@ -85,12 +80,10 @@ fn hunt_given<O: Output, W: WeakHunts, P: HuntObserver + Sync, R: Threads + Wait
     ensures begun { OnErr result ((O.took out.new ≡ O.took out.old) ⊎
         ((h : SetHunt W.hunts asked.now files.now.image.items files.now.input.items) ×
         BeganText (O.took out.old) (O.took out.new) (hunt_text h))) }
-    ensures unprinted { IfErr result (λ f.
-        IsUnprinted (failure_number f) (O.took out.old) (O.took out.new)) }
     ensures errors { IfErr result (IsHuntEnd asked.now files.now.image.items) }
 {
     let NamedBytes { bytes, fault } = named_in(alloc, &asked.search, files)?;
-    let settings = hunt_settings(alloc, asked, &bytes, &files.image)?;
+    let settings = hunt_settings(alloc, asked, &bytes)?;
     match fault {
         Some(fault) => Err(refused_for(alloc, &files.image, &settings, fault)),
         None => {

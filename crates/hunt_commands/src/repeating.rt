@@ -178,11 +178,7 @@ pub fn weak_line_of(
 }
 
 /// The line of a command on a program for so many rounds, but for its plan: each option that the outcome depends on.
-///
-/// # Errors
-///
-/// The allocator's alone.
-pub fn line_of(
+fn line_of(
     alloc: Global,
     command: &str,
     program: &Program<'_>,
@@ -212,11 +208,7 @@ fn quoted_path(alloc: Global, path: &str) -> Result<String, AllocError> {
 }
 
 /// A word as a shell takes it: as it is, where it has letters, digits and the like alone, and else between quotes.
-///
-/// # Errors
-///
-/// The allocator's alone.
-pub fn quoted(alloc: Global, word: &str) -> Result<String, AllocError> {
+fn quoted(alloc: Global, word: &str) -> Result<String, AllocError> {
     if !word.is_empty() && word.bytes().all(is_plain) {
         return Ok(String::from_str(alloc, word)?);
     }

@@ -1,8 +1,6 @@
 ghost use Rattle.std.specs.Prelude.{◌≡◌, ◌⊎◌, ◌++◌, IfErr, IfOk, OnErr, OnOk};
 ghost use Rattle.host_io.specs.Taken.{BeganText};
 ghost use Rattle.hunt_commands.specs.Asked.{IsFileEnd};
-ghost use Rattle.program_files.specs.Failures.{IsUnprinted};
-ghost use Rattle.hunt_commands.specs.Failures.{failure_number};
 ghost use Rattle.hunt_commands.specs.Shrinks.{AskedShrink, EndsShrink, IsShrinkEnd, SetShrink, shrunk_text};
 ghost use Rattle.program_files.specs.declared.exit_status.ExitStatus.TheVariants as statuses;
 ghost use Rattle.round_planner.specs.PlanText.{plan_text};
@@ -51,9 +49,6 @@ pub fn shrink_command<
     ensures begun { OnErr result ((O.took out.new ≡ O.took out.old) ⊎
         ((a : AskedShrink (F.holds files.now) (F.begins files.now) asked.now) ×
         BeganText (O.took out.old) (O.took out.new) (shrunk_text a.made))) }
-    // After a refusal for another cause than memory and the output nothing was printed.
-    ensures unprinted { IfErr result (λ f.
-        IsUnprinted (failure_number f) (O.took out.old) (O.took out.new)) }
     ensures errors { IfErr result (EndsShrink (F.holds files.now) (F.begins files.now) asked.now) }
 {
     let given = read_program(files, alloc, &asked.search.program)?;
@@ -97,8 +92,6 @@ fn put_plan<O: Output>(alloc: Global, plan: &Plan, out: &mut O) -> Result<(), Hu
     ensures puts { OnOk result (O.took out.new ≡ O.took out.old ++ plan_text plan.now.rows) }
     ensures begun { OnErr result ((O.took out.new ≡ O.took out.old) ⊎
         BeganText (O.took out.old) (O.took out.new) (plan_text plan.now.rows)) }
-    ensures unprinted { IfErr result (λ f.
-        IsUnprinted (failure_number f) (O.took out.old) (O.took out.new)) }
     ensures errors { IfErr result IsFileEnd }
 {
     let text = plan.text(alloc)?;

@@ -54,11 +54,7 @@ fn read_tables<'a, F: Files>(
 }
 
 /// Reads the table of the file of a path.
-///
-/// # Errors
-///
-/// `Run` where the file can't be read, `NotATable` where it has no table; the refusal of memory at any time.
-pub fn read_table_of<'a, F: Files>(
+fn read_table_of<'a, F: Files>(
     files: &F,
     alloc: Global,
     path: &'a str,

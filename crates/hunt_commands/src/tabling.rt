@@ -8,8 +8,6 @@ ghost use Rattle.hunter.specs.Hunts.{IsImageCause, has_bad_range, hunt_fault};
 ghost use Rattle.hunter.specs.declared.error.HuntError.{HuntError as Refusal};
 ghost use Rattle.hunter.specs.declared.error.HuntError.TheVariants as hunting;
 ghost use Rattle.plan_hunt.specs.declared.row.Row.{Row as TableRow};
-ghost use Rattle.program_files.specs.Failures.{IsUnprinted};
-ghost use Rattle.weak_hunter.specs.Refusals.{weak_hunt_number};
 ghost use Rattle.weak_hunter.specs.declared.error.WeakHuntError.TheVariants.{Hunt};
 
 use crate::weak_hunts::WeakHunts;
@@ -40,8 +38,6 @@ pub(crate) fn write_rows<S: Sink, W: WeakHunts, O: HuntObserver + Sync, R: Threa
         ((n : ℕ) × (rows : List TableRow) × IsTableBy W.hunts steps settings.now.header.is_weak settings.now
         files.now.image.items files.now.input.items n rows ×
         BeganText (S.took out.old) (S.took out.new) (table_text (with_count settings.now.header n) rows))) }
-    ensures unprinted { IfErr result (λ e.
-        IsUnprinted (weak_hunt_number e) (S.took out.old) (S.took out.new)) }
     ensures settings { (e : Refusal) → hunt_fault settings.now ≡ Some e → result ≡ Err (Hunt e) }
     ensures errors { hunt_fault settings.now ≡ None → IfErr result
         (IsHuntRefusal settings.now.header.is_weak settings.now files.now.image.items) }

@@ -9,8 +9,6 @@ ghost use Rattle.hunter.specs.declared.error.HuntError.{HuntError as Refusal};
 ghost use Rattle.hunter.specs.declared.error.HuntError.TheVariants as hunting;
 ghost use Rattle.hunter.specs.declared.settings.HuntSettings.{HuntSettings as AskedFor};
 ghost use Rattle.plan_hunt.specs.declared.row.Row.{Row as TableRow};
-ghost use Rattle.program_files.specs.Failures.{IsUnprinted};
-ghost use Rattle.weak_hunter.specs.Refusals.{weak_hunt_number};
 ghost use Rattle.weak_hunter.specs.WeakHunts.{IsWeakReason, IsWeaklyHunted};
 ghost use Rattle.weak_hunter.specs.declared.error.WeakHuntError.TheVariants.{Hunt};
 
@@ -53,8 +51,6 @@ pub trait WeakHunts {
             ((n : ℕ) × (rows : List TableRow) × IsWeaklyHunted settings.now image.now input.now n rows ×
             hunts settings.now image.now input.now steps n rows ×
             BeganText (S.took out.old) (S.took out.new) (table_text (with_count settings.now.header n) rows))) }
-        ensures unprinted { IfErr result (λ e.
-            IsUnprinted (weak_hunt_number e) (S.took out.old) (S.took out.new)) }
         ensures settings { (e : Refusal) → hunt_fault settings.now ≡ Some e → result ≡ Err (Hunt e) }
         ensures errors { hunt_fault settings.now ≡ None → IfErr result (λ e.
             IsWeakReason settings.now image.now e ⊎ (e ≡ Hunt (hunting.Run refusals.SinkFailed))) }

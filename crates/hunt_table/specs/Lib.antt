@@ -4,5 +4,3 @@ pub mod Reading
 pub mod Told
 pub mod Merging
 pub mod Refusals
-pub mod Programs
-pub mod Ranges

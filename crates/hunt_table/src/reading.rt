@@ -2,7 +2,6 @@ mod cursor;
 mod endings;
 mod growing;
 mod output;
-mod program;
 mod seen;
 mod stops;
 
@@ -17,7 +16,6 @@ use crate::header::Header;
 use crate::read_error::ReadError;
 use crate::reading::cursor::{byte_at, number_at, skip, word_at};
 use crate::reading::endings::endings_at;
-use crate::reading::program::program_at;
 use crate::table::Table;
 use crate::writing::add_table;
 use pages::OutOfMemory;
@@ -45,8 +43,7 @@ fn table_at(alloc: Global, text: &[u8]) -> Result<Table, OutOfMemory>
     let (count, rest) = word_at(skip(rest, 1));
     let (seed, rest) = number_at(skip(rest, " seed ".len()));
     let (is_weak, rest) = weak_at(rest);
-    let (program, rest) = program_at(skip(rest, 1));
-    let (endings, rest) = number_at(skip(rest, "endings ".len()));
+    let (endings, rest) = number_at(skip(rest, "\nendings ".len()));
     let endings = endings_at(alloc, skip(rest, 1), endings)?;
     Ok(Table {
         header: Header {
@@ -54,7 +51,6 @@ fn table_at(alloc: Global, text: &[u8]) -> Result<Table, OutOfMemory>
             seed,
             first,
             count,
-            program,
             ranges: endings.ranges,
         },
         rows: endings.rows,

@@ -1,8 +1,6 @@
 //! The command `replay`.
 ghost use Rattle.std.specs.Prelude.{◌≡◌, ◌⊎◌, ◌++◌, IfErr, IfOk, OnErr};
 ghost use Rattle.host_io.specs.Taken.{BeganText};
-ghost use Rattle.program_files.specs.Failures.{IsUnprinted};
-ghost use Rattle.past_commands.specs.Failures.{failure_number};
 ghost use Rattle.past_commands.specs.Questions.{question_of};
 ghost use Rattle.past_commands.specs.Refused.{EndsReplay, EndsReplayOf, EndsReplaying, IsOutput, IsRefusedRun};
 ghost use Rattle.past_commands.specs.Replays.{AskedReplay, IsHartAnswer, IsRecordingAnswer, IsReplayAnswer, IsVerdictAnswer};
@@ -57,9 +55,6 @@ pub fn replay_command<
     // Else nothing was printed, or a beginning of such an answer.
     ensures begun { OnErr result ((O.took out.new ≡ O.took out.old) ⊎ ((a : AskedReplay (F.either files.now) asked.now) ×
         BeganText (O.took out.old) (O.took out.new) a.answer.text)) }
-    // After a refusal for another cause than memory and the output nothing was printed.
-    ensures unprinted { IfErr result (λ f.
-        IsUnprinted (failure_number f) (O.took out.old) (O.took out.new)) }
     ensures errors { IfErr result (EndsReplay (F.either files.now) asked.now) }
 {
     let past = read_past(files, alloc, asked.recording)?;

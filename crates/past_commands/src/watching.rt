@@ -1,8 +1,7 @@
 //! The command `watch`.
 ghost use Rattle.std.specs.Prelude.{◌≡◌, ◌⊎◌, ◌++◌, IfErr, IfOk, OnErr};
 ghost use Rattle.host_io.specs.Taken.{BeganText};
-ghost use Rattle.program_files.specs.Failures.{IsUnprinted};
-ghost use Rattle.past_commands.specs.Failures.{failure_number, out_of_memory};
+ghost use Rattle.past_commands.specs.Failures.{out_of_memory};
 ghost use Rattle.past_commands.specs.Refused.{EndsWatch, EndsWatchOf, EndsWatching, IsOutput, IsRefusal, IsRefusedRun};
 ghost use Rattle.past_commands.specs.Watched.{watched_status, watched_text};
 ghost use Rattle.past_commands.specs.Watches.{AreRunHits, AskedWatch, IsRecordingWatch, IsWatch, pcs_told};
@@ -57,9 +56,6 @@ pub fn watch_command<
     // Else nothing was printed, or a beginning of that.
     ensures begun { OnErr result ((O.took out.new ≡ O.took out.old) ⊎ ((a : AskedWatch (F.either files.now) asked.now) ×
         BeganText (O.took out.old) (O.took out.new) (watched_text a.watched))) }
-    // After a refusal for another cause than memory and the output nothing was printed.
-    ensures unprinted { IfErr result (λ f.
-        IsUnprinted (failure_number f) (O.took out.old) (O.took out.new)) }
     ensures errors { IfErr result (EndsWatch (F.either files.now) asked.now) }
 {
     let past = read_past(files, alloc, asked.recording)?;

@@ -1,4 +1,3 @@
 pub mod Told
 pub mod Begun
 pub mod NextRound
-pub mod Unprinted

@@ -1,5 +1,5 @@
 -- Why a run that was asked for isn't done, and its number.
-use Rattle.std.specs.Prelude.{◌≡◌, ◌⊎◌, List, ℕ, ⊤, Result, Ok, Err}
+use Rattle.std.specs.Prelude.{◌≡◌, ℕ, ⊤, Result, Ok, Err}
 use Rattle.host_io.specs.RunErrors.{number_of}
 use Rattle.host_io.specs.declared.error.RunError.{RunError}
 use Rattle.host_io.specs.declared.error.RunError.TheVariants as refusals
@@ -22,10 +22,6 @@ abbrev pub failure_number : RunFailure → ℕ
 failure_number (Refused error) = number_of error
 failure_number (Plan error line) = number_of error
 failure_number (File path fault) = fault_number fault
-
--- nothing was printed, unless the failure is one that may cut a text off: memory's, which has the number 20, or the output's, 21
-abbrev pub IsUnprinted : ℕ → List ℕ → List ℕ → Type 0
-IsUnprinted number old new = (new ≡ old) ⊎ (number ≡ 20) ⊎ (number ≡ 21)
 
 -- a file couldn't be read, or memory was refused
 abbrev pub IsFileFailure : RunFailure → Type 0

@@ -16,8 +16,6 @@ pub enum ExitStatus {
     Doubtful,
     /// A fence is missing.
     Lacking,
-    /// No ending that was found is bad, but there may be others.
-    Incomplete,
 }
 
 impl ExitStatus {
@@ -32,7 +30,6 @@ impl ExitStatus {
             ExitStatus::Differs => 3,
             ExitStatus::Doubtful => 4,
             ExitStatus::Lacking => 5,
-            ExitStatus::Incomplete => 6,
         }
     }
 }

@@ -3,8 +3,6 @@ ghost use Rattle.std.specs.Prelude.{◌≡◌, ◌⊎◌, Err, IfErr, IfOk, None
 ghost use Rattle.execution_commands.specs.Verdicts.{IsVerdictText, is_allowed, verdict_status};
 ghost use Rattle.execution_file.specs.Views.{as_recorded};
 ghost use Rattle.host_io.specs.declared.error.RunError.TheVariants as refusals;
-ghost use Rattle.program_files.specs.Failures.{IsUnprinted};
-ghost use Rattle.view_commands.specs.Failures.{failure_number};
 ghost use Rattle.view_commands.specs.Drawings.{BeginsFound, DrawsExecution, IsAskable, IsBegunExecution, IsCheckedEnd, IsExecutionEnd, IsUnasked, PrintsFound};
 ghost use Rattle.view_commands.specs.Views.{IsNamed};
 ghost use Rattle.program_files.specs.declared.exit_status.ExitStatus.TheVariants.{Done};
@@ -32,8 +30,6 @@ pub(crate) fn draw_execution<S: Sink>(
     ensures draws { IfOk result (DrawsExecution asked.now text.now (S.took out.old) (S.took out.new)) }
     ensures begun { OnErr result ((S.took out.new ≡ S.took out.old) ⊎
         IsBegunExecution asked.now text.now (S.took out.old) (S.took out.new)) }
-    ensures unprinted { IfErr result (λ f.
-        IsUnprinted (failure_number f) (S.took out.old) (S.took out.new)) }
     ensures errors { IfErr result (IsExecutionEnd asked.now text.now) }
 {
     let file = read_execution_text(alloc, text)?;
@@ -70,8 +66,6 @@ fn draw_checked<S: Sink>(
     ensures status { IfOk result (λ status. status ≡ verdict_status checked.now.finding) }
     ensures begun { OnErr result ((S.took out.new ≡ S.took out.old) ⊎ BeginsFound (is_allowed checked.now.finding)
         asked.now (as_recorded file.now) (IsVerdictText checked.now) (S.took out.old) (S.took out.new)) }
-    ensures unprinted { IfErr result (λ f.
-        IsUnprinted (failure_number f) (S.took out.old) (S.took out.new)) }
     ensures errors { IfErr result (IsCheckedEnd asked.now (as_recorded file.now) (is_allowed checked.now.finding)) }
 {
     if is_allowed(checked) {
@@ -93,8 +87,6 @@ fn draw_allowed<S: Sink>(
     ensures status { IfOk result (λ status. status ≡ Done) }
     ensures begun { OnErr result ((S.took out.new ≡ S.took out.old) ⊎
         IsNamed asked.now file.now.image.items file.now.pages None) }
-    ensures unprinted { IfErr result (λ f.
-        IsUnprinted (failure_number f) (S.took out.old) (S.took out.new)) }
     ensures errors { IfErr result (IsCheckedEnd asked.now (as_recorded file.now) true) }
 {
     let NamedBytes { bytes, fault } = named_bytes(

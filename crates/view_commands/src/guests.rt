@@ -2,8 +2,6 @@
 ghost use Rattle.std.specs.Prelude.{◌≡◌, ◌⊎◌, ◌++◌, IfErr, IfOk, OnErr, OnOk, Some};
 ghost use Rattle.host_io.specs.Taken.{BeganText};
 ghost use Rattle.program_files.specs.Asked.{RefusedSetRun};
-ghost use Rattle.program_files.specs.Failures.{IsUnprinted, failure_number as run_number};
-ghost use Rattle.view_commands.specs.Failures.{failure_number};
 ghost use Rattle.view_commands.specs.Drawings.{DrawsRun, IsBegunRun, IsRunEnd};
 ghost use Rattle.view_commands.specs.Views.{HasRounds, IsNamed, SetDraw, drawn_text, ranges_of};
 
@@ -35,8 +33,6 @@ pub(crate) fn draw_guest<O: Output, P: Observer + ProgressLine, R: Threads + Wai
     ensures begun { OnErr result ((O.took out.new ≡ O.took out.old) ⊎
         IsBegunRun asked.now given.now.program.image.items given.now.program.input.items
         given.now.plan.text.items given.now.plan.budget (O.took out.old) (O.took out.new)) }
-    ensures unprinted { IfErr result (λ f.
-        IsUnprinted (failure_number f) (O.took out.old) (O.took out.new)) }
     ensures errors { IfErr result (IsRunEnd asked.now given.now.program.image.items
         given.now.plan.text.items given.now.plan.budget) }
 {
@@ -73,8 +69,6 @@ fn draw_ranges<O: Output, P: Observer + ProgressLine, R: Threads + Wait + Sync>(
     ensures begun { OnErr result ((O.took out.new ≡ O.took out.old) ⊎
         ((d : SetDraw asked.now given.now.program.image.items given.now.plan.text.items given.now.plan.budget) ×
         BeganText (O.took out.old) (O.took out.new) (drawn_text given.now.program.input.items d))) }
-    ensures unprinted { IfErr result (λ f.
-        IsUnprinted (run_number f) (O.took out.old) (O.took out.new)) }
     ensures errors { IfErr result (RefusedSetRun asked.now.run.program given.now.plan.text.items
         given.now.plan.budget given.now.program.image.items) }
 {

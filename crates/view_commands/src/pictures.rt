@@ -1,6 +1,4 @@
 ghost use Rattle.std.specs.Prelude.{◌≡◌, ◌⊎◌, IfErr, IfOk, OnErr};
-ghost use Rattle.program_files.specs.Failures.{IsUnprinted};
-ghost use Rattle.view_commands.specs.Failures.{failure_number};
 ghost use Rattle.view_commands.specs.Drawings.{AskedDraw, Draws, EndsDraw, IsBegun, IsDrawEnd, is_of_execution};
 
 use crate::executions::draw_execution;
@@ -46,9 +44,6 @@ pub fn draw_command<
     ensures begun { OnErr result ((O.took out.new ≡ O.took out.old) ⊎
         ((a : AskedDraw (F.holds files.now) (F.begins files.now) asked.now) ×
         IsBegun asked.now a.image a.input a.text a.budget (O.took out.old) (O.took out.new))) }
-    // After a refusal for another cause than memory and the output nothing was printed.
-    ensures unprinted { IfErr result (λ f.
-        IsUnprinted (failure_number f) (O.took out.old) (O.took out.new)) }
     ensures errors { IfErr result (EndsDraw (F.holds files.now) (F.begins files.now) asked.now) }
 {
     let given = read_run(files, alloc, &asked.run)?;
@@ -73,8 +68,6 @@ fn draw_given<O: Output, P: Observer + ProgressLine, R: Threads + Wait + Sync>(
     ensures begun { OnErr result ((O.took out.new ≡ O.took out.old) ⊎
         IsBegun asked.now given.now.program.image.items given.now.program.input.items
         given.now.plan.text.items given.now.plan.budget (O.took out.old) (O.took out.new)) }
-    ensures unprinted { IfErr result (λ f.
-        IsUnprinted (failure_number f) (O.took out.old) (O.took out.new)) }
     ensures errors { IfErr result (IsDrawEnd asked.now given.now.program.image.items
         given.now.plan.text.items given.now.plan.budget) }
 {

@@ -1,6 +1,6 @@
 -- The search for missing fences that a line asks for, and why it isn't done. `holds` and `begins` say what files hold, and `finds` that a
 -- search by some settings finds a table, with these executions.
-use Rattle.std.specs.Prelude.{◌≡◌, ◌⊎◌, ℕ, if◌then◌else◌, List, map, false, true, Option, Some, None, is_some, option_map}
+use Rattle.std.specs.Prelude.{◌≡◌, ◌⊎◌, ℕ, List, map, false, true, Option, Some, None, is_some, option_map}
 use Rattle.command_line.specs.declared.settings.Fences.{Fences}
 use Rattle.execution_file.specs.Views.{as_recorded}
 use Rattle.execution_file.specs.declared.file.ExecutionFile.{ExecutionFile}
@@ -18,7 +18,6 @@ use Rattle.hunt_commands.specs.Settings.{HasNumbers, HasRanges}
 use Rattle.hunt_commands.specs.declared.failure.HuntFailure.{HuntFailure}
 use Rattle.hunter.specs.Hunts.{hunt_fault}
 use Rattle.hunter.specs.declared.settings.HuntSettings.{HuntSettings}
-use Rattle.plan_hunt.specs.declared.extent.Until.TheVariants.{Bad, Done}
 use Rattle.program_files.specs.Asked.{IsInputOf, IsProgramOf}
 
 -- ---- what is searched
@@ -34,16 +33,10 @@ accept_of asked = option_map (λ s. s.now) asked.accept
 abbrev pub keep_of : Fences → Option (List ℕ)
 keep_of asked = option_map (λ s. s.now) asked.keep
 
--- the search is over where the line says: with the first number for which a fence is missing, or where the seconds that it gives are
-pub record HasSearchEnd (asked : Fences) (s : HuntSettings) : Type 0 where
-  pub until : s.until ≡ (if asked.until_missing then Bad else Done)
-  pub is_timed : s.is_timed ≡ is_some asked.seconds
-
 -- the settings have what the line says: of the executions, how many steps each has at most, the fences that are assumed, the places that the list accepts, and whether executions are kept
 pub record IsAskedSearch (asked : Fences) (accepted image : List ℕ) (s : FenceSettings) : Type 0 where
   pub numbers : HasNumbers asked.search asked.first asked.plans false s.hunt
   pub ranges : HasRanges asked.search image s.hunt
-  pub ends : HasSearchEnd asked s.hunt
   pub steps : s.steps ≡ asked.steps
   pub assumed : IsAssumed (words_of asked) s.hunt image s.assumed.items
   pub is_accepted : accepted_in accepted ≡ Some s.accepted

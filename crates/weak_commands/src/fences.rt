@@ -1,11 +1,10 @@
 ghost use Rattle.std.specs.Prelude.{◌≡◌, ◌⊎◌, ◌++◌, IfErr, IfOk, None, OnErr, map, option_map};
 ghost use Rattle.execution_file.specs.Views.{as_recorded};
-ghost use Rattle.weak_commands.specs.Asked.{AskedSearch, EndsFences, HasSearchEnd, IsSearchEnd, IsWorldEnd, SetSearch, keep_of};
+ghost use Rattle.weak_commands.specs.Asked.{AskedSearch, EndsFences, IsSearchEnd, IsWorldEnd, SetSearch, keep_of};
 ghost use Rattle.weak_commands.specs.Saved.{AreSaved};
 ghost use Rattle.weak_commands.specs.Status.{fences_status};
 ghost use Rattle.fence_table.specs.Text.{fences_text};
 ghost use Rattle.host_io.specs.Taken.{BeganText};
-ghost use Rattle.hunt_commands.specs.Settings.{HasNumbers};
 ghost use Rattle.program_files.specs.Asked.{IsInputOf};
 ghost use Rattle.program_files.specs.Failures.{IsFileFailure};
 
@@ -19,8 +18,6 @@ use command_line::Fences;
 use fence_finder::{FenceObserver, FenceSettings, FoundFences};
 use fence_table::Accepted;
 use hunt_commands::{named_in, refused_for, settings_of, tell_decimals};
-use hunter::HuntSettings;
-use plan_hunt::Until;
 use program_files::{
     ExitStatus, Files, Messages, NamedBytes, Output, ProgramFiles, ProgressLine, RunFailure,
     read_file, read_program,
@@ -42,7 +39,7 @@ pub fn fences_command<
     O: Output,
     M: Messages,
     W: FenceSearches,
-    P: FenceObserver + ProgressLine + Sync,
+    P: FenceObserver + ProgressLine,
     R: Threads + Wait + Sync,
 >(
     threads: &R,
@@ -50,7 +47,7 @@ pub fn fences_command<
     files: &mut F,
     searcher: &W,
     asked: &Fences<'_>,
-    progress: &P,
+    progress: &mut P,
     out: &mut O,
     messages: &M,
 ) -> Result<ExitStatus, FencesFailure>
@@ -76,7 +73,7 @@ pub fn fences_command<
     keep(files, alloc, asked.keep, &found.executions)?;
     out.hand_on()?;
     // What was asked for is out.
-    let _untold = tell_missing(alloc, asked, &found, messages);
+    let _untold = tell_missing(alloc, asked, &found.table.missing, messages);
     tell_running(asked, &found.table, messages);
     tell_compared(found.compared, messages);
     tell_decimals(&asked.search, &given, messages);
@@ -94,29 +91,12 @@ fn read_list<F: Files>(files: &F, alloc: Global, path: Option<&str>) -> Result<V
     }
 }
 
-/// The same settings of a search that is over where the line says.
-fn with_end(asked: &Fences<'_>, settings: HuntSettings) -> HuntSettings
-    ensures end { HasSearchEnd asked.now result }
-    ensures numbers { HasNumbers asked.now.search asked.now.first asked.now.plans false settings →
-        HasNumbers asked.now.search asked.now.first asked.now.plans false result }
-    ensures ranges { result.header.ranges ≡ settings.header.ranges }
-{
-    let mut settings = settings;
-    settings.until = if asked.until_missing {
-        Until::Bad
-    } else {
-        Until::Done
-    };
-    settings.is_timed = asked.seconds.is_some();
-    settings
-}
-
 /// Searches in what the files gave, and prints the table.
 fn search_given<
     O: Output,
     M: Messages,
     W: FenceSearches,
-    P: FenceObserver + ProgressLine + Sync,
+    P: FenceObserver + ProgressLine,
     R: Threads + Wait + Sync,
 >(
     threads: &R,
@@ -125,7 +105,7 @@ fn search_given<
     files: &ProgramFiles,
     list: &[u8],
     asked: &Fences<'_>,
-    progress: &P,
+    progress: &mut P,
     out: &mut O,
     messages: &M,
 ) -> Result<FoundFences, FencesFailure>
@@ -146,7 +126,6 @@ fn search_given<
         asked.plans,
         false,
     )?;
-    let hunt = with_end(asked, hunt);
     let assumed = fences_of(alloc, &asked.as_if_fence, &hunt, &files.image, messages)?;
     let settings = FenceSettings {
         hunt,

@@ -30,7 +30,7 @@ impl FileText for ExecutionText<'_> {
 /// # Errors
 ///
 /// `Unwritten` with the path of the first file that can't be made or written, and the refusal of memory.
-pub fn keep<F: Files>(
+pub(crate) fn keep<F: Files>(
     files: &mut F,
     alloc: Global,
     folder: Option<&str>,

@@ -14,7 +14,7 @@ ghost use Rattle.hunter.specs.declared.error.HuntError.TheVariants as hunting;
 ghost use Rattle.weak_hunter.specs.WeakHunts.{IsWeakReason};
 ghost use Rattle.weak_hunter.specs.declared.error.WeakHuntError.TheVariants.{Hunt};
 
-use fence_finder::{FenceFinder, FenceObserver, FenceSettings, FoundFences, TimedExecuter};
+use fence_finder::{FenceObserver, FenceSettings, FoundFences, find_fences};
 use host_io::Sink;
 use std::alloc::Global;
 use std::sync::Wait;
@@ -32,14 +32,14 @@ pub trait FenceSearches {
     /// # Errors
     ///
     /// As `find_fences` of fence_finder.
-    fn search<S: Sink, O: FenceObserver + Sync, R: Threads + Wait + Sync>(
+    fn search<S: Sink, O: FenceObserver, R: Threads + Wait + Sync>(
         &self,
         rt: &R,
         alloc: Global,
         image: &[u8],
         input: &[u8],
         settings: FenceSettings,
-        observer: &O,
+        observer: &mut O,
         out: &mut S,
     ) -> Result<FoundFences, WeakHuntError>
         requires sync { IsSync R.row }
@@ -67,20 +67,16 @@ pub struct FenceSearcher;
 impl FenceSearches for FenceSearcher {
     ghost finds = { λ _ _ _ _ _. ⊤ };
 
-    fn search<S: Sink, O: FenceObserver + Sync, R: Threads + Wait + Sync>(
+    fn search<S: Sink, O: FenceObserver, R: Threads + Wait + Sync>(
         &self,
         rt: &R,
         alloc: Global,
         image: &[u8],
         input: &[u8],
         settings: FenceSettings,
-        observer: &O,
+        observer: &mut O,
         out: &mut S,
     ) -> Result<FoundFences, WeakHuntError> {
-        let finder = FenceFinder {
-            executer: &TimedExecuter,
-            observer,
-        };
-        finder.find_fences(rt, alloc, image, input, settings, out)
+        find_fences(rt, alloc, image, input, settings, observer, out)
     }
 }

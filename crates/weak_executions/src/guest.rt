@@ -3,7 +3,6 @@ ghost use Rattle.std.specs.Prelude.{◌≤◌, length};
 use crate::opening::{Opening, shared};
 use departures::{Departure, Draws, EarlyStores, Record, Stream};
 use pages::OutOfMemory;
-use plan_hunt::{HuntObserver, UnobservedHunt};
 use round_planner::Family;
 use round_schedule::MOST_HARTS;
 use std::alloc::Global;
@@ -60,19 +59,6 @@ impl<'a> WeakGuest<'a> {
         self.execute_within(number, is_recorded, self.bounds)
     }
 
-    /// The same without a record, and an observer learns of the rounds while they are done.
-    ///
-    /// # Errors
-    ///
-    /// `OutOfMemory` alone.
-    pub fn execute_observed<O: HuntObserver>(
-        &self,
-        number: u32,
-        observer: &O,
-    ) -> Result<TimedMachine, OutOfMemory> {
-        self.made(number, false, self.bounds, observer)
-    }
-
     /// The same within other bounds. In each fifth number a store comes early, where an execution without departures has one that
     /// can; in the others loads read old and stores come late.
     ///
@@ -85,52 +71,39 @@ impl<'a> WeakGuest<'a> {
         is_recorded: bool,
         bounds: Bounds,
     ) -> Result<TimedMachine, OutOfMemory> {
-        self.made(number, is_recorded, bounds, &UnobservedHunt)
-    }
-
-    /// The execution of a number within these bounds.
-    fn made<O: HuntObserver>(
-        &self,
-        number: u32,
-        is_recorded: bool,
-        bounds: Bounds,
-        observer: &O,
-    ) -> Result<TimedMachine, OutOfMemory> {
         let early = match Draws::early(self.seed, number) {
-            Some(stream) => self.execute_early(number, is_recorded, bounds, stream, observer)?,
+            Some(stream) => self.execute_early(number, is_recorded, bounds, stream)?,
             None => None,
         };
         match early {
             Some(machine) => Ok(machine),
-            None => self.ran(self.machine(number, is_recorded)?, number, bounds, observer),
+            None => self.ran(self.machine(number, is_recorded)?, number, bounds),
         }
     }
 
     /// A machine after it has gone by the plan of a number.
-    fn ran<O: HuntObserver>(
+    fn ran(
         &self,
         machine: TimedMachine,
         number: u32,
         bounds: Bounds,
-        observer: &O,
     ) -> Result<TimedMachine, OutOfMemory> {
         let mut machine = machine;
-        match self.run(&mut machine, number, bounds, observer) {
+        match self.run(&mut machine, number, bounds) {
             Ok(()) => Ok(machine),
             Err(error) => Err(error),
         }
     }
 
     /// Has a machine go by the plan of a number.
-    fn run<O: HuntObserver>(
+    fn run(
         &self,
         machine: &mut TimedMachine,
         number: u32,
         bounds: Bounds,
-        observer: &O,
     ) -> Result<(), OutOfMemory> {
         let rows = self.rows(number)?;
-        machine.run_observed(&rows, bounds, observer)
+        machine.run_within(&rows, bounds)
     }
 
     /// The execution by the plan of a number with just these departures, as far as they can be.
@@ -145,37 +118,22 @@ impl<'a> WeakGuest<'a> {
         is_recorded: bool,
         bounds: Bounds,
     ) -> Result<TimedMachine, OutOfMemory> {
-        self.made_with(number, departures, is_recorded, bounds, &UnobservedHunt)
-    }
-
-    /// The same, and an observer learns of the rounds.
-    fn made_with<O: HuntObserver>(
-        &self,
-        number: u32,
-        departures: Vec<Departure>,
-        is_recorded: bool,
-        bounds: Bounds,
-        observer: &O,
-    ) -> Result<TimedMachine, OutOfMemory> {
         let mut machine = self.machine(number, is_recorded)?;
         machine.depart(departures);
-        self.ran(machine, number, bounds, observer)
+        self.ran(machine, number, bounds)
     }
 
     /// The execution of a number in which a store comes early, if one of those that are tried can.
-    fn execute_early<O: HuntObserver>(
+    fn execute_early(
         &self,
         number: u32,
         is_recorded: bool,
         bounds: Bounds,
         stream: Stream,
-        observer: &O,
     ) -> Result<Option<TimedMachine>, OutOfMemory> {
-        let ordinary = self.ordinary(number, observer)?;
+        let ordinary = self.ordinary(number)?;
         let early = match ordinary.record() {
-            Some(record) => {
-                self.execute_like(record, number, is_recorded, bounds, stream, observer)
-            }
+            Some(record) => self.execute_like(record, number, is_recorded, bounds, stream),
             None => Ok(None),
         };
         drop(ordinary);
@@ -183,14 +141,13 @@ impl<'a> WeakGuest<'a> {
     }
 
     /// The same, where this record is of what the plan does without departures.
-    fn execute_like<O: HuntObserver>(
+    fn execute_like(
         &self,
         record: &Record,
         number: u32,
         is_recorded: bool,
         bounds: Bounds,
         stream: Stream,
-        observer: &O,
     ) -> Result<Option<TimedMachine>, OutOfMemory> {
         let stores = EarlyStores::of(self.alloc, record)?;
         let mut stream = stream;
@@ -199,7 +156,7 @@ impl<'a> WeakGuest<'a> {
                 break;
             };
             let departures = Vec::from_slice(self.alloc, &[departure])?;
-            let machine = self.made_with(number, departures, is_recorded, bounds, observer)?;
+            let machine = self.execute_with(number, departures, is_recorded, bounds)?;
             if machine.came_early() {
                 return Ok(Some(machine));
             }
@@ -208,17 +165,13 @@ impl<'a> WeakGuest<'a> {
     }
 
     /// What the plan of a number does without departures, from which it is drawn which store comes early.
-    fn ordinary<O: HuntObserver>(
-        &self,
-        number: u32,
-        observer: &O,
-    ) -> Result<TimedMachine, OutOfMemory> {
+    fn ordinary(&self, number: u32) -> Result<TimedMachine, OutOfMemory> {
         let bounds = Bounds {
             rounds: self.bounds.rounds,
             steps: self.bounds.steps.min(MOST_STEPS),
             until_fault: true,
         };
-        self.made_with(number, Vec::new(self.alloc), true, bounds, observer)
+        self.execute_with(number, Vec::new(self.alloc), true, bounds)
     }
 
     /// What each execution begins with.

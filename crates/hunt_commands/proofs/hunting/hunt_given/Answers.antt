@@ -43,7 +43,6 @@ returns-in_err-answer-in-None-clause-begun g c =
         rows = b.1;
         numbers = numbers;
         ends = c.in_ok-settings.ensures.ends;
-        program = rw c.deref-2.ensures.value at c.in_ok-settings.ensures.program;
         ranges = ranges_so asked.search image bytes s there named ranges;
         table = table_so g.W.WeakHunts.hunts asked.steps asked.weak s image input b.0 b.1 numbers.is_weak b.2;
       },
@@ -92,7 +91,6 @@ returns-clause-hunts g c =
         rows = tally.rows.items;
         numbers = numbers;
         ends = c.in_ok-settings.ensures.ends;
-        program = rw c.deref-2.ensures.value at c.in_ok-settings.ensures.program;
         ranges = ranges_so asked.search image bytes s there named ranges;
         table = table_so g.W.WeakHunts.hunts asked.steps asked.weak s image input tally.done tally.rows.items numbers.is_weak h.0;
       },

@@ -10,7 +10,6 @@ returns-clause-ok c =
     let next : Adjoins c.args.harts w t = search rules in (
       next,
       record {
-        program = refl;
         is_weak = refl;
         seed = refl;
         ranges = refl;

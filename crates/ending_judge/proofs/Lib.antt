@@ -1,4 +1,0 @@
-mod Lists
-mod Outputs
-mod Seen
-mod Ended

@@ -1,2 +1,0 @@
-mod Confirmed
-mod Opened

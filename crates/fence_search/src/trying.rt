@@ -1,0 +1,235 @@
+use crate::departing::Departing;
+use crate::failing::{Failing, Judgement};
+use crate::guest::{FenceGuest, Span, copied};
+use crate::ordinary::Ordinary;
+use crate::shortening::shortened;
+use departures::{Departure, Placing, Record};
+use fence_places::{Moves, is_sequential, moves_of};
+use pages::OutOfMemory;
+use timed_machine::TimedMachine;
+use weak_executions::is_allowed;
+
+/// The orders of an execution's memory operations that are tried, one after another: in the first just what departs is out of its
+/// hart's order.
+const PLACINGS: [Placing; 3] = [Placing::AsDone, Placing::AsOld, Placing::Earliest];
+
+/// An execution that fails by its departures.
+#[derive(Drop)]
+pub struct Found {
+    /// Its number.
+    pub number: u32,
+    /// How it fails.
+    pub failing: Failing,
+    /// What departs.
+    pub departures: Vec<Departure>,
+    /// By which rule its memory operations are ordered.
+    pub placing: Placing,
+    /// How many steps it has.
+    pub span: Span,
+    /// How many memory operations.
+    pub operations: u64,
+    /// What its departures moved.
+    pub moves: Moves,
+}
+
+/// What came of the execution of a number.
+#[derive(Drop)]
+pub(crate) enum Trial {
+    /// It ends as it has to.
+    Well,
+    /// Its plan fails without departures too.
+    Ordinary,
+    /// It is cut off while harts run, and nothing else is known of it.
+    Running,
+    /// It fails only with its departures, but is sequentially consistent, so that another plan fails without any; or it runs on, and not
+    /// all ordinary runs end well.
+    Unnamed,
+    /// It fails by what its departures move.
+    Fails(Found),
+    /// The checker of executions allows it in no order, or it isn't the same twice.
+    Unconfirmed,
+}
+
+/// Makes the execution of a number, and where that fails looks for what it fails by.
+///
+/// # Errors
+///
+/// `OutOfMemory` alone.
+pub(crate) fn try_number(
+    guest: &FenceGuest<'_>,
+    ordinary: &Ordinary,
+    number: u32,
+) -> Result<Trial, OutOfMemory> {
+    match ordinary.judgement(guest, number, Departing::Drawn)? {
+        Judgement::Well => Ok(Trial::Well),
+        Judgement::Cut => Ok(Trial::Running),
+        Judgement::Void => Ok(Trial::Unconfirmed),
+        Judgement::Fails(failing) => look_into(guest, ordinary, number, failing),
+    }
+}
+
+/// Looks for what the execution of a number fails by.
+fn look_into(
+    guest: &FenceGuest<'_>,
+    ordinary: &Ordinary,
+    number: u32,
+    failing: Failing,
+) -> Result<Trial, OutOfMemory> {
+    let without = ordinary.judgement(guest, number, Departing::NONE)?;
+    match trial_without(without, failing, ordinary.ends_well) {
+        Some(trial) => Ok(trial),
+        None => look_into_departures(guest, ordinary, number, failing),
+    }
+}
+
+/// What came of an execution that fails so, where its departures needn't be looked into, since this comes of it without them.
+fn trial_without(without: Judgement, failing: Failing, ends_well: bool) -> Option<Trial> {
+    let is_stuck = failing.is_like(Failing::Stuck);
+    match without {
+        Judgement::Fails(_) => Some(Trial::Ordinary),
+        // What hangs isn't told from what would only take longer.
+        Judgement::Cut if is_stuck => Some(Trial::Running),
+        _ if is_stuck && !ends_well => Some(Trial::Unnamed),
+        _ => None,
+    }
+}
+
+/// Looks for those departures that the execution of a number fails by.
+fn look_into_departures(
+    guest: &FenceGuest<'_>,
+    ordinary: &Ordinary,
+    number: u32,
+    failing: Failing,
+) -> Result<Trial, OutOfMemory> {
+    let drawn = drawn_departures(guest, ordinary, number)?;
+    let fewer = shortened(guest, ordinary, number, failing, &drawn)?;
+    match ordinary.failing(guest, number, Departing::Listed(&fewer))? {
+        Some(failing) => explain(guest, ordinary, number, failing, fewer),
+        // What seemed to run on for ever may end after all.
+        None => match ordinary.failing(guest, number, Departing::Listed(&drawn))? {
+            Some(failing) => explain(guest, ordinary, number, failing, drawn),
+            None => Ok(Trial::Unconfirmed),
+        },
+    }
+}
+
+/// What comes of the execution of a number with just these departures, of which all are needed where it fails.
+///
+/// # Errors
+///
+/// `OutOfMemory` alone.
+pub(crate) fn try_departures(
+    guest: &FenceGuest<'_>,
+    ordinary: &Ordinary,
+    number: u32,
+    departures: &[Departure],
+) -> Result<Trial, OutOfMemory> {
+    match ordinary.failing(guest, number, Departing::Listed(departures))? {
+        Some(failing) => {
+            let departures = copied(guest.alloc, departures)?;
+            explain(guest, ordinary, number, failing, departures)
+        }
+        None => Ok(Trial::Well),
+    }
+}
+
+/// The departures that a number draws, as far as they take effect.
+fn drawn_departures(
+    guest: &FenceGuest<'_>,
+    ordinary: &Ordinary,
+    number: u32,
+) -> Result<Vec<Departure>, OutOfMemory> {
+    let machine = guest.execute(number, Departing::Drawn, true, ordinary.own_span())?;
+    let drawn = copied(guest.alloc, departures_of(&machine));
+    drop(machine);
+    drawn
+}
+
+/// What departs in the execution of a machine.
+fn departures_of(machine: &TimedMachine) -> &[Departure] {
+    match machine.record() {
+        Some(record) => record.departures(),
+        None => &[],
+    }
+}
+
+/// The first of the orders in which the checker of executions allows a record.
+fn placing_of(guest: &FenceGuest<'_>, record: &Record) -> Result<Option<Placing>, OutOfMemory> {
+    for placing in &PLACINGS {
+        if is_allowed(guest.alloc, &guest.opening, record, *placing)? {
+            return Ok(Some(*placing));
+        }
+    }
+    Ok(None)
+}
+
+/// What an execution fails by.
+fn explain(
+    guest: &FenceGuest<'_>,
+    ordinary: &Ordinary,
+    number: u32,
+    failing: Failing,
+    departures: Vec<Departure>,
+) -> Result<Trial, OutOfMemory> {
+    let span = span_shown(ordinary, failing);
+    let machine = guest.execute(number, Departing::Listed(&departures), true, span)?;
+    let found = Found {
+        number,
+        failing,
+        departures,
+        placing: Placing::AsDone,
+        span: Span {
+            own: span.own,
+            all: machine.steps(),
+        },
+        operations: machine.operations(),
+        moves: Moves::none(guest.alloc),
+    };
+    let trial = explain_record(guest, &machine, found);
+    drop(machine);
+    trial
+}
+
+/// The steps of the execution that is shown where one fails so. Of one that hangs those by another plan show nothing more.
+fn span_shown(ordinary: &Ordinary, failing: Failing) -> Span {
+    match failing {
+        Failing::Stuck => ordinary.own_span(),
+        Failing::Stopped(_, _) | Failing::Output | Failing::Seen => ordinary.whole_span(),
+    }
+}
+
+/// What the execution of a machine fails by, of which the order and what moved aren't known yet.
+fn explain_record(
+    guest: &FenceGuest<'_>,
+    machine: &TimedMachine,
+    found: Found,
+) -> Result<Trial, OutOfMemory> {
+    let Some(record) = machine.record() else {
+        return Ok(Trial::Unconfirmed);
+    };
+    let Some(placing) = placing_of(guest, record)? else {
+        return Ok(Trial::Unconfirmed);
+    };
+    let Some(moves) = telling_moves(guest, record, placing)? else {
+        return Ok(Trial::Unnamed);
+    };
+    let mut found = found;
+    found.placing = placing;
+    found.moves = moves;
+    Ok(Trial::Fails(found))
+}
+
+/// What the departures of a record moved, where they moved something and the execution is not sequentially consistent.
+fn telling_moves(
+    guest: &FenceGuest<'_>,
+    record: &Record,
+    placing: Placing,
+) -> Result<Option<Moves>, OutOfMemory> {
+    let order = record.placed(guest.alloc, placing)?;
+    let moves = moves_of(guest.alloc, record, &order)?;
+    if moves.gaps.is_empty() || is_sequential(guest.alloc, record.deeds(), &order)? {
+        Ok(None)
+    } else {
+        Ok(Some(moves))
+    }
+}

@@ -1,3 +1,0 @@
-pub mod Departing
-pub mod Well
-pub mod Trials

@@ -1,6 +1,0 @@
-pub mod Twins
-pub mod Text
-pub mod Status
-pub mod Unlikes
-pub mod Compares
-pub mod Failures

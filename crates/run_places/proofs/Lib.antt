@@ -1,4 +1,0 @@
-pub mod Followed
-pub mod KnownBytes
-pub mod Paid
-pub mod Standing

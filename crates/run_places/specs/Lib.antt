@@ -1,5 +1,0 @@
-pub mod Bounds
-pub mod Following
-pub mod Found
-pub mod Places
-pub mod Walks
