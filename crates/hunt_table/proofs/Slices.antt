@@ -1,11 +1,12 @@
 -- One more table is merged.
-use Rattle.std.proofs.Common.{◌≡◌, ℕ, ◌+◌, ◌<◌, Result, Ok, Err, List, [], ◌∷◌, ◌++◌, All, length, get_or, sum_by, take, refl, sym, ◌∙◌, ap, subst, arith}
+use Rattle.std.proofs.Common.{◌≡◌, ℕ, ◌+◌, ◌<◌, Result, Ok, Err, List, [], ◌∷◌, ◌++◌, All, length, Option, get_or, sum_by, take, refl, sym, ◌∙◌, ap, subst, arith}
 use Rattle.std.specs.Global.{Vec}
 use Rattle.std.proofs.lemmas.List.{get_or_append_left, get_or_at, length_push, take_more}
 use Rattle.std.proofs.lemmas.List.Elements.{All-head}
 use Rattle.std.proofs.lemmas.List.Sums.{sum_by-cons, sum_by_push}
 use Rattle.plan_hunt.specs.declared.row.Row.{Row}
 use Rattle.hunt_table.specs.Text.{IsTextOf}
+use Rattle.hunt_table.specs.declared.fingerprint.Fingerprint.{Fingerprint}
 use Rattle.hunt_table.specs.declared.header.Header.{Header}
 use Rattle.hunt_table.specs.Told.{IsReadAs, IsSame, IsTold}
 use Rattle.hunt_table.specs.declared.read_error.ReadError.{ReadError}
@@ -13,11 +14,12 @@ use Rattle.hunt_table.specs.declared.read_error.ReadError.TheVariants.{NotATable
 use Rattle.hunt_table.specs.declared.table.Table.{Table}
 use Rattle.hunt_table.specs.Refusals.{refusal_of}
 use Rattle.hunt_table.specs.declared.merge_error.MergeError.TheVariants as refusals
-use Rattle.hunt_table.specs.Merging.{Adjoins, AreSlices, AreTexts, AreTold, FollowOn, Follows, HasFewPlans, IsAppended, IsMerged, IsNoTable, IsOfHunt, TellSlices, TellsPlans, harts_of}
+use Rattle.hunt_table.specs.Merging.{Adjoins, AreOfOneProgram, AreSlices, AreTexts, AreTold, FollowOn, Follows, HasFewPlans, HaveProgram, IsAppended, IsMerged, IsNoTable, IsOfHunt, TellSlices, TellsPlans, harts_of}
 
 -- ---- tables that are the same, whatever memory they take
 
 pub record Alike (a b : Table) : Type 0 where
+  program : a.header.program ≡ b.header.program
   is_weak : a.header.is_weak ≡ b.header.is_weak
   seed : a.header.seed ≡ b.header.seed
   first : a.header.first ≡ b.header.first
@@ -32,7 +34,7 @@ AreAlike (a ∷ cs) [] = ⊥
 AreAlike (a ∷ cs) (b ∷ bs) = Alike a b × AreAlike cs bs
 
 alike_back : (a b : Table) → Alike a b → Alike b a
-alike_back a b h = record { is_weak = sym h.is_weak; seed = sym h.seed; first = sym h.first; count = sym h.count; ranges = sym h.ranges; rows = sym h.rows }
+alike_back a b h = record { program = sym h.program; is_weak = sym h.is_weak; seed = sym h.seed; first = sym h.first; count = sym h.count; ranges = sym h.ranges; rows = sym h.rows }
 
 pub are_alike_back : (cs bs : List Table) → AreAlike cs bs → AreAlike bs cs
 are_alike_back [] [] h = tt
@@ -43,6 +45,7 @@ are_alike_back (a ∷ cs) (b ∷ bs) h = (alike_back a b h.0, are_alike_back cs 
 follows_alike : (a b s t : Table) → Alike a b → Alike s t → Follows a s → Follows b t
 follows_alike a b s t p q h = record {
   hunt = record {
+    is_program = sym q.program ∙ h.hunt.is_program ∙ p.program;
     is_weak = sym q.is_weak ∙ h.hunt.is_weak ∙ p.is_weak;
     has_seed = sym q.seed ∙ h.hunt.has_seed ∙ p.seed;
     has_ranges = sym q.ranges ∙ h.hunt.has_ranges ∙ p.ranges;
@@ -114,7 +117,7 @@ is_read x text r t is e found only = (
 )
   where
     alike : (u : Table) → IsSame u.header u.rows.items t → Alike u t
-    alike u s = record { is_weak = sym s.is_weak; seed = sym s.seed; first = sym s.first; count = sym s.count; ranges = sym s.ranges; rows = sym s.rows }
+    alike u s = record { program = sym s.program; is_weak = sym s.is_weak; seed = sym s.seed; first = sym s.first; count = sym s.count; ranges = sym s.ranges; rows = sym s.rows }
 
 -- ---- slices
 
@@ -139,12 +142,12 @@ last_follows t [] n h = h.0
 last_follows t (s ∷ ts) n h = last_follows s ts n h.1
 
 -- the last slice is of the same hunt
-hunt_of : (t : Table) (ts : List Table) → FollowOn t ts → IsOfHunt t.header.is_weak t.header.seed t.header.ranges.items (harts_of t.rows.items) (last_of t ts)
-hunt_of t [] h = record { is_weak = refl; has_seed = refl; has_ranges = refl; has_harts = refl }
+hunt_of : (t : Table) (ts : List Table) → FollowOn t ts → IsOfHunt t.header.program t.header.is_weak t.header.seed t.header.ranges.items (harts_of t.rows.items) (last_of t ts)
+hunt_of t [] h = record { is_program = refl; is_weak = refl; has_seed = refl; has_ranges = refl; has_harts = refl }
 hunt_of t (n ∷ ts) h =
     let rest = hunt_of n ts h.1 in
     let next = h.0.hunt in
-    record { is_weak = rest.is_weak ∙ next.is_weak; has_seed = rest.has_seed ∙ next.has_seed; has_ranges = rest.has_ranges ∙ next.has_ranges; has_harts = rest.has_harts ∙ next.has_harts }
+    record { is_program = rest.is_program ∙ next.is_program; is_weak = rest.is_weak ∙ next.is_weak; has_seed = rest.has_seed ∙ next.has_seed; has_ranges = rest.has_ranges ∙ next.has_ranges; has_harts = rest.has_harts ∙ next.has_harts }
 
 -- the plans of the slices end with those of the last
 end_of : (t : Table) (ts : List Table) → FollowOn t ts → t.header.first + sum_by (λ (s : Table). s.header.count) (t ∷ ts) ≡ (last_of t ts).header.first + (last_of t ts).header.count
@@ -156,6 +159,7 @@ follows_of t ts w n m a =
     let hunt = hunt_of t ts m.slices.1 in
     let end = end_of t ts m.slices.1 in record {
       hunt = record {
+        is_program = a.hunt.is_program ∙ m.program ∙ sym hunt.is_program;
         is_weak = a.hunt.is_weak ∙ m.is_weak ∙ sym hunt.is_weak;
         has_seed = a.hunt.has_seed ∙ m.seed ∙ sym hunt.has_seed;
         has_ranges = a.hunt.has_ranges ∙ m.ranges ∙ sym hunt.has_ranges;
@@ -171,6 +175,7 @@ adjoins_of t ts w n m f =
     let end = end_of t ts m.slices.1 in
     let next : n.header.first ≡ w.header.first + w.header.count = omega (arith, end, m.first, m.count, f.plans) in record {
       hunt = record {
+        is_program = f.hunt.is_program ∙ hunt.is_program ∙ sym m.program;
         is_weak = f.hunt.is_weak ∙ hunt.is_weak ∙ sym m.is_weak;
         has_seed = f.hunt.has_seed ∙ hunt.has_seed ∙ sym m.seed;
         has_ranges = f.hunt.has_ranges ∙ hunt.has_ranges ∙ sym m.ranges;
@@ -186,6 +191,26 @@ pub apart_from : (xs : List (Vec ℕ)) (t : Table) (ts : List Table) (w n : Tabl
 apart_from xs t ts w n h m not us told e s =
     let all : AreSlices (t ∷ (ts ++ n ∷ [])) = slices_alike us (t ∷ (ts ++ n ∷ [])) (told_of xs (t ∷ (ts ++ n ∷ [])) us h told e) s in
     not (adjoins_of t ts w n m (last_follows t ts n all.1))
+
+-- tables that are alike are of one program where the others are
+programs_alike : (p q : Option Fingerprint) (cs bs : List Table) → p ≡ q → AreAlike cs bs → HaveProgram p cs → HaveProgram q bs
+programs_alike p q [] [] same a h = tt
+programs_alike p q [] (b ∷ bs) same a h = absurd a
+programs_alike p q (c ∷ cs) [] same a h = absurd a
+programs_alike p q (c ∷ cs) (b ∷ bs) same a h = (sym a.0.program ∙ h.0 ∙ same, programs_alike p q cs bs same a.1 h.1)
+
+last_has : (p : Option Fingerprint) (ts : List Table) (n : Table) → HaveProgram p (ts ++ n ∷ []) → n.header.program ≡ p
+last_has p [] n h = h.0
+last_has p (t ∷ ts) n h = last_has p ts n h.1
+
+one_program : (us : List Table) (t : Table) (ts : List Table) (n : Table) → AreAlike us (t ∷ (ts ++ n ∷ [])) → AreOfOneProgram us → n.header.program ≡ t.header.program
+one_program [] t ts n a h = absurd a
+one_program (u ∷ us) t ts n a h = last_has t.header.program ts n (programs_alike u.header.program t.header.program us (ts ++ n ∷ []) a.0.program a.1 h)
+
+-- a table of another program than the merged one is so beside the slices, whatever told tables these texts have
+pub other_from : (xs : List (Vec ℕ)) (t : Table) (ts : List Table) (w n : Table) → AreReadOf xs ((t ∷ ts) ++ n ∷ []) → IsMerged t ts w → (n.header.program ≡ w.header.program → ⊥) →
+    (us : List Table) → AreTold us → AreTexts xs us → AreOfOneProgram us → ⊥
+other_from xs t ts w n h m not us told e o = not (one_program us t ts n (told_of xs (t ∷ (ts ++ n ∷ [])) us h told e) o ∙ sym m.program)
 
 pub first_apart : (xs : List (Vec ℕ)) (t : Table) → AreReadOf xs (t ∷ []) → (HasFewPlans t → ⊥) → (us : List Table) → AreTold us → AreTexts xs us → AreSlices us → ⊥
 first_apart xs t h many us told e s =
@@ -203,6 +228,7 @@ end_of_all P ts t h = subst P (get_or_at ts t [] t (length ts) refl) (h (length 
 pub one_table : (t : Table) → HasFewPlans t → IsMerged t [] t
 one_table t few = record {
   slices = (few, tt);
+  program = refl;
   is_weak = refl;
   seed = refl;
   ranges = refl;
@@ -217,6 +243,7 @@ one_table t few = record {
 pub next_table : (t : Table) (ts : List Table) (w n new : Table) → IsMerged t ts w → Adjoins (harts_of t.rows.items) w n → IsAppended w n new → IsMerged t (ts ++ n ∷ []) new
 next_table t ts w n new m a j = record {
   slices = (m.slices.0, follow-push t ts n m.slices.1 (follows_of t ts w n m a));
+  program = j.program ∙ m.program;
   is_weak = j.is_weak ∙ m.is_weak;
   seed = j.seed ∙ m.seed;
   ranges = j.ranges ∙ m.ranges;

@@ -4,3 +4,5 @@ pub mod Reading
 pub mod Told
 pub mod Merging
 pub mod Refusals
+pub mod Programs
+pub mod Ranges

@@ -1,11 +1,12 @@
 -- The tables of slices of one hunt, and the table that they are merged to.
-use Rattle.std.specs.Prelude.{◌≡◌, ◌⊎◌, ℕ, ◌+◌, ◌^◌, ◌<◌, Bool, List, [], ◌∷◌, All, get_or, length, sum_by, take}
+use Rattle.std.specs.Prelude.{◌≡◌, ◌⊎◌, ℕ, ◌+◌, ◌^◌, ◌<◌, Bool, List, [], ◌∷◌, All, Option, get_or, length, sum_by, take}
 use Rattle.std.specs.Global.{Vec}
 use Rattle.plan_hunt.specs.Endings.{Ended}
 use Rattle.plan_hunt.specs.Tables.{IsTable}
 use Rattle.plan_hunt.specs.declared.row.Row.{Row}
 use Rattle.hunt_table.specs.Text.{IsTextOf, table_text}
 use Rattle.hunt_table.specs.Told.{IsTold}
+use Rattle.hunt_table.specs.declared.fingerprint.Fingerprint.{Fingerprint}
 use Rattle.hunt_table.specs.declared.header.Header.{Header}
 use Rattle.hunt_table.specs.declared.seen_range.SeenRange.{SeenRange}
 use Rattle.hunt_table.specs.declared.table.Table.{Table}
@@ -31,8 +32,9 @@ abbrev pub harts_of : List Row → ℕ
 harts_of [] = 0
 harts_of (r ∷ rs) = length r.ending.stops
 
--- the table is of a hunt with this seed, these ranges and so many harts, and both are weak or neither is
-pub record IsOfHunt (weak : Bool) (seed : ℕ) (ranges : List SeenRange) (harts : ℕ) (t : Table) : Type 0 where
+-- the table is of a hunt of this program with this seed, these ranges and so many harts, and both are weak or neither is
+pub record IsOfHunt (program : Option Fingerprint) (weak : Bool) (seed : ℕ) (ranges : List SeenRange) (harts : ℕ) (t : Table) : Type 0 where
+  pub is_program : t.header.program ≡ program
   pub is_weak : t.header.is_weak ≡ weak
   pub has_seed : t.header.seed ≡ seed
   pub has_ranges : t.header.ranges.items ≡ ranges
@@ -44,7 +46,7 @@ HasFewPlans t = t.header.first + t.header.count < 2 ^ 32
 
 -- a table has the plans that follow those of another, in the same hunt
 pub record Follows (t next : Table) : Type 0 where
-  pub hunt : IsOfHunt t.header.is_weak t.header.seed t.header.ranges.items (harts_of t.rows.items) next
+  pub hunt : IsOfHunt t.header.program t.header.is_weak t.header.seed t.header.ranges.items (harts_of t.rows.items) next
   pub plans : next.header.first ≡ t.header.first + t.header.count
   pub few_plans : HasFewPlans next
 
@@ -67,6 +69,7 @@ TellsPlans ends t = IsTable ends t.header.first t.header.count t.rows.items
 -- a table of the plans of all these slices: where each of them tells how its plans end, it does so too
 pub record IsMerged (t : Table) (ts : List Table) (w : Table) : Type 0 where
   pub slices : AreSlices (t ∷ ts)
+  pub program : w.header.program ≡ t.header.program
   pub is_weak : w.header.is_weak ≡ t.header.is_weak
   pub seed : w.header.seed ≡ t.header.seed
   pub ranges : w.header.ranges.items ≡ t.header.ranges.items
@@ -85,12 +88,13 @@ pub record IsMergedText (texts : List (Vec ℕ)) (table : Table) (text : List �
 
 -- a table has the plans that follow those of a merged one, in the same hunt of so many harts
 pub record Adjoins (harts : ℕ) (w t : Table) : Type 0 where
-  pub hunt : IsOfHunt w.header.is_weak w.header.seed w.header.ranges.items harts t
+  pub hunt : IsOfHunt w.header.program w.header.is_weak w.header.seed w.header.ranges.items harts t
   pub next : t.header.first ≡ w.header.first + w.header.count
   pub few_plans : w.header.first + w.header.count + t.header.count < 2 ^ 32
 
 -- a table with that of the plans which follow
 pub record IsAppended (w t new : Table) : Type 0 where
+  pub program : new.header.program ≡ w.header.program
   pub is_weak : new.header.is_weak ≡ w.header.is_weak
   pub seed : new.header.seed ≡ w.header.seed
   pub ranges : new.header.ranges.items ≡ w.header.ranges.items
@@ -129,3 +133,22 @@ pub record IsFirstApart (texts : List (Vec ℕ)) : Type 0 where
 -- there are no texts, or one is that of a table apart
 abbrev pub AreApart : List (Vec ℕ) → Type 0
 AreApart texts = (texts ≡ []) ⊎ IsFirstApart texts
+
+-- the tables tell of this program, or, where it is none, of none
+abbrev pub HaveProgram : Option Fingerprint → List Table → Type 0
+HaveProgram program [] = Unit {0}
+HaveProgram program (t ∷ ts) = (t.header.program ≡ program) × HaveProgram program ts
+
+-- the tables are of one program
+abbrev pub AreOfOneProgram : List Table → Type 0
+AreOfOneProgram [] = Unit {0}
+AreOfOneProgram (t ∷ ts) = HaveProgram t.header.program ts
+
+-- it is a table's, but that of another program's
+pub record IsFirstOfOther (texts : List (Vec ℕ)) : Type 0 where
+  pub before : ℕ
+  pub among : before < length texts
+  pub slices : TellSlices (take before texts)
+  pub tables : List Table
+  pub are_texts : AreTexts (take (before + 1) texts) tables
+  pub other : (ts : List Table) → AreTold ts → AreTexts (take (before + 1) texts) ts → AreOfOneProgram ts → ⊥

@@ -1,10 +1,12 @@
 -- What a reader makes of a text, whatever it is: each part is read from the front as if it were there. Where the text is a
 -- table's, that is the table.
-use Rattle.std.specs.Prelude.{ℕ, zero, suc, ◌+◌, ◌-◌, ◌*◌, ◌/◌, ◌%◌, ◌^◌, ◌==◌, ◌&&◌, min, nat_le, nat_lt, if◌then◌else◌, Bool, true, false, List, [], ◌∷◌, fold, length, map, take, drop, slice_index, Option, None}
+use Rattle.std.specs.Prelude.{ℕ, zero, suc, ◌+◌, ◌-◌, ◌*◌, ◌/◌, ◌%◌, ◌^◌, ◌==◌, ◌&&◌, min, nat_le, nat_lt, if◌then◌else◌, Bool, true, false, List, [], ◌∷◌, fold, length, map, take, drop, slice_index, Option, Some, None}
 use Rattle.std.specs.List.{flat_map, prefix_len}
 use Rattle.plan_hunt.specs.declared.hart_ending.HartEnding.{HartEnding}
 use Rattle.plan_hunt.specs.declared.hart_ending.HartEnding.TheVariants.{Loops, Runs, Stopped}
 use Rattle.hunt_table.specs.Names.{is_name_byte, name_of}
+use Rattle.hunt_table.specs.Programs.{fingerprint}
+use Rattle.hunt_table.specs.declared.fingerprint.Fingerprint.{Fingerprint}
 use Rattle.hunt_table.specs.declared.seen_range.SeenRange.{SeenRange}
 use Rattle.plan_hunt.specs.Adding.{row}
 use Rattle.plan_hunt.specs.Endings.{ended}
@@ -175,16 +177,25 @@ pub record Told : Type 0 where
   pub seed : ℕ
   pub first : ℕ
   pub count : ℕ
+  pub program : Option Fingerprint
   pub ranges : List SeenRange
   pub rows : List Row
 
-abbrev pub told : ℕ → ℕ → ℕ → Bool → List (Row × List SeenRange) → Told
-told first count seed weak es =
-    record { is_weak = weak; seed = seed; first = first; count = count; ranges = last_ranges [] es; rows = rows_of es }
+abbrev pub told : ℕ → ℕ → ℕ → Bool → Option Fingerprint → List (Row × List SeenRange) → Told
+told first count seed weak program es =
+    record { is_weak = weak; seed = seed; first = first; count = count; program = program; ranges = last_ranges [] es; rows = rows_of es }
 
 -- whether the word ` weak` is there, and what follows
 abbrev pub weak_at : List ℕ → Bool × List ℕ
 weak_at bs = if slice_index bs 0 == 32 then (true, drop 5 bs) else (false, bs)
+
+-- the CRC-32 behind its word, with a length before it, and what follows its line
+abbrev pub checksum_at : ℕ → List ℕ → Option Fingerprint × List ℕ
+checksum_at length bs = (Some (fingerprint length (min (hex_value (take 8 bs)) (2 ^ 32 - 1))), drop 9 bs)
+
+-- the line of the program, where one begins as `program` does, and what follows
+unfoldable pub program_at : List ℕ → Option Fingerprint × List ℕ
+program_at bs = if slice_index bs 0 == 112 then (let length = number_at (drop 8 bs) in checksum_at length.0 (drop 5 length.1)) else (None, bs)
 
 unfoldable pub table_at : List ℕ → Told
 table_at bs =
@@ -192,9 +203,10 @@ table_at bs =
     let count = word_at (drop 1 first.1) in
     let seed = number_at (drop 6 count.1) in
     let weak = weak_at seed.1 in
-    let endings = number_at (drop 9 weak.1) in
-    told first.0 count.0 seed.0 weak.0 (endings_at endings.0 (drop 1 endings.1)).0
+    let program = program_at (drop 1 weak.1) in
+    let endings = number_at (drop 8 program.1) in
+    told first.0 count.0 seed.0 weak.0 program.0 (endings_at endings.0 (drop 1 endings.1)).0
 
 -- a table in memory as its contents
 abbrev pub contents : Table → Told
-contents t = record { is_weak = t.header.is_weak; seed = t.header.seed; first = t.header.first; count = t.header.count; ranges = t.header.ranges.items; rows = t.rows.items }
+contents t = record { is_weak = t.header.is_weak; seed = t.header.seed; first = t.header.first; count = t.header.count; program = t.header.program; ranges = t.header.ranges.items; rows = t.rows.items }

@@ -7,6 +7,7 @@ use Rattle.plan_hunt.specs.declared.hart_ending.HartEnding.TheVariants.{Loops, R
 use Rattle.plan_hunt.specs.Endings.{ends_well}
 use Rattle.plan_hunt.specs.declared.row.Row.{Row}
 use Rattle.report_lines.specs.Text.{bytes_text, hex, stop_text}
+use Rattle.hunt_table.specs.declared.fingerprint.Fingerprint.{Fingerprint}
 use Rattle.hunt_table.specs.declared.header.Header.{Header}
 use Rattle.hunt_table.specs.declared.seen_range.SeenRange.{SeenRange}
 
@@ -106,14 +107,23 @@ plans_front first count = codes "plans " ++ decimal first ++ codes " " ++ decima
 unfoldable pub plans_line : Bool → ℕ → ℕ → ℕ → List ℕ
 plans_line weak seed first count = plans_front first count ++ codes " seed " ++ decimal seed ++ weak_word weak ++ codes "\n"
 
--- the plans of the hunt, and how many endings they have
-unfoldable pub header_text : Bool → ℕ → ℕ → ℕ → ℕ → List ℕ
-header_text weak seed first count endings = plans_line weak seed first count ++ codes "endings " ++ decimal endings ++ codes "\n"
+-- how long a program's image is, and its CRC-32 in eight digits
+abbrev pub fingerprint_words : Fingerprint → List ℕ
+fingerprint_words p = codes "program " ++ decimal p.length ++ codes " crc " ++ hex 8 p.checksum
+
+-- the line of the program, where one is told
+unfoldable pub program_line : Option Fingerprint → List ℕ
+program_line None = []
+program_line (Some p) = fingerprint_words p ++ codes "\n"
+
+-- the plans of the hunt, the program, and how many endings they have
+unfoldable pub header_text : Bool → ℕ → ℕ → ℕ → Option Fingerprint → ℕ → List ℕ
+header_text weak seed first count program endings = plans_line weak seed first count ++ program_line program ++ codes "endings " ++ decimal endings ++ codes "\n"
 
 -- the table of a hunt, as text: with bad endings marked, or, as it was once written, without
 unfoldable pub table_text_by : Bool → Header → List Row → List ℕ
 table_text_by marked h rows =
-    header_text h.is_weak h.seed h.first h.count (length rows) ++ endings_text h.is_weak marked h.ranges.items 1 rows ++ codes "end\n"
+    header_text h.is_weak h.seed h.first h.count h.program (length rows) ++ endings_text h.is_weak marked h.ranges.items 1 rows ++ codes "end\n"
 
 abbrev pub table_text : Header → List Row → List ℕ
 table_text h rows = table_text_by true h rows

@@ -2,6 +2,7 @@
 use Rattle.std.specs.Prelude.{◌≡◌, ◌≢◌, ℕ, ◌^◌, ◌<◌, List, [], All, length, sum_by, Option, Some, None, Result, MatchResult}
 use Rattle.plan_hunt.specs.declared.hart_ending.HartEnding.{HartEnding}
 use Rattle.plan_hunt.specs.declared.hart_ending.HartEnding.TheVariants.{Loops, Runs, Stopped}
+use Rattle.hunt_table.specs.declared.fingerprint.Fingerprint.{Fingerprint}
 use Rattle.hunt_table.specs.declared.header.Header.{Header}
 use Rattle.hunt_table.specs.declared.seen_range.SeenRange.{SeenRange}
 use Rattle.hunt_table.specs.Names.{name_of}
@@ -25,6 +26,11 @@ IsToldName (Some name) = name_of name ≡ Some name
 abbrev pub IsToldRange : SeenRange → Type 0
 IsToldRange r = (r.address < 2 ^ 32) × (r.length < 2 ^ 32) × IsToldName r.name
 
+-- no program, or one whose numbers fit their fields
+abbrev pub IsToldProgram : Option Fingerprint → Type 0
+IsToldProgram None = Unit {0}
+IsToldProgram (Some p) = (p.length < 2 ^ 64) × (p.checksum < 2 ^ 32)
+
 -- numbers that fit their fields, and as many bytes that are looked at as the ranges have
 pub record IsToldRow (ranges : List SeenRange) (r : Row) : Type 0 where
   pub first : r.first < 2 ^ 32
@@ -41,6 +47,7 @@ pub record IsTold (h : Header) (endings : List Row) : Type 0 where
   pub seed : h.seed < 2 ^ 64
   pub first : h.first < 2 ^ 32
   pub count : h.count < 2 ^ 32
+  pub program : IsToldProgram h.program
   pub ranges : All IsToldRange h.ranges.items
   pub no_ending : endings ≡ [] → h.ranges.items ≡ []
   pub few_endings : length endings < 2 ^ 64
@@ -52,6 +59,7 @@ pub record IsSame (h : Header) (endings : List Row) (t : Table) : Type 0 where
   pub seed : t.header.seed ≡ h.seed
   pub first : t.header.first ≡ h.first
   pub count : t.header.count ≡ h.count
+  pub program : t.header.program ≡ h.program
   pub ranges : t.header.ranges.items ≡ h.ranges.items
   pub rows : t.rows.items ≡ endings
 

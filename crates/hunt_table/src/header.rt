@@ -1,3 +1,4 @@
+use crate::fingerprint::Fingerprint;
 use crate::seen_range::SeenRange;
 
 /// What a hunt was asked for: its plans are `count` of a family's, from `first` on.
@@ -8,6 +9,8 @@ pub struct Header {
     pub seed: u64,
     pub first: u32,
     pub count: u32,
+    /// The program; none in a table that was written before tables told of it.
+    pub program: Option<Fingerprint>,
     /// The bytes that are looked at. The seen bytes of an ending are those of all ranges, one after the other.
     pub ranges: Vec<SeenRange>,
 }

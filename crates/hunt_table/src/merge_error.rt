@@ -19,10 +19,13 @@ pub enum MergeError {
     /// The tables are none, or not those of slices of one hunt that follow on one another.
     #[error("the tables are not those of slices of one hunt, one after the other")]
     Apart,
+    /// A table is of another program than those before it.
+    #[error("the tables are of different programs")]
+    OtherProgram,
 }
 
 impl MergeError {
-    /// The number of the refusal: that of the run's, and else 71 and 72 in the order above.
+    /// The number of the refusal: that of the run's, and else 71, 72 and 78 in the order above.
     pub fn number(self) -> u32
         ensures { result ≡ merge_number self }
     {
@@ -30,6 +33,7 @@ impl MergeError {
             MergeError::Run(error) => error.number(),
             MergeError::NotATable => 71,
             MergeError::Apart => 72,
+            MergeError::OtherProgram => 78,
         }
     }
 }

@@ -2,6 +2,7 @@ mod cursor;
 mod endings;
 mod growing;
 mod output;
+mod program;
 mod seen;
 mod stops;
 
@@ -16,6 +17,7 @@ use crate::header::Header;
 use crate::read_error::ReadError;
 use crate::reading::cursor::{byte_at, number_at, skip, word_at};
 use crate::reading::endings::endings_at;
+use crate::reading::program::program_at;
 use crate::table::Table;
 use crate::writing::add_table;
 use pages::OutOfMemory;
@@ -43,7 +45,8 @@ fn table_at(alloc: Global, text: &[u8]) -> Result<Table, OutOfMemory>
     let (count, rest) = word_at(skip(rest, 1));
     let (seed, rest) = number_at(skip(rest, " seed ".len()));
     let (is_weak, rest) = weak_at(rest);
-    let (endings, rest) = number_at(skip(rest, "\nendings ".len()));
+    let (program, rest) = program_at(skip(rest, 1));
+    let (endings, rest) = number_at(skip(rest, "endings ".len()));
     let endings = endings_at(alloc, skip(rest, 1), endings)?;
     Ok(Table {
         header: Header {
@@ -51,6 +54,7 @@ fn table_at(alloc: Global, text: &[u8]) -> Result<Table, OutOfMemory>
             seed,
             first,
             count,
+            program,
             ranges: endings.ranges,
         },
         rows: endings.rows,

@@ -2,11 +2,11 @@ mod endings;
 
 ghost use Rattle.std.specs.Prelude.{◌≡◌, ◌<◌, ◌++◌, Err, OnOk};
 ghost use Rattle.host_io.specs.Taken.{WritesText};
-ghost use Rattle.hunt_table.specs.Text.{endings_text, header_text, plans_front, plans_line, table_text, table_text_by, weak_word, with_count};
+ghost use Rattle.hunt_table.specs.Text.{endings_text, fingerprint_words, header_text, plans_front, plans_line, program_line, table_text, table_text_by, weak_word, with_count};
 
+use crate::fingerprint::Fingerprint;
 use crate::header::Header;
-use crate::writing::endings::{EndingForm, add_ending};
-pub use endings::{add_output, add_ranges};
+pub use endings::{EndingForm, add_ending, add_output, add_ranges};
 use host_io::{RunError, Sink, put_all};
 use pages::OutOfMemory;
 use plan_hunt::Row;
@@ -79,14 +79,39 @@ fn add_plans_line(line: &mut Line, header: &Header, count: u32) -> Result<(), Ou
     line.text("\n")
 }
 
-/// Adds the lines of the plans and of the number of endings.
+/// Adds the numbers of a program.
+fn add_fingerprint(line: &mut Line, program: Fingerprint) -> Result<(), OutOfMemory>
+    ensures { OnOk result (line.new ≡ line.old ++ fingerprint_words program) }
+{
+    line.text("program ")?;
+    line.decimal(program.length)?;
+    line.text(" crc ")?;
+    line.hex(u64::from(program.checksum), 8)
+}
+
+/// Adds the line of the program, where one is told.
+#[tactic(auto, unfolding(crate::specs::Text::program_line))]
+fn add_program(line: &mut Line, program: Option<Fingerprint>) -> Result<(), OutOfMemory>
+    ensures { OnOk result (line.new ≡ line.old ++ program_line program) }
+{
+    match program {
+        None => Ok(()),
+        Some(program) => {
+            add_fingerprint(line, program)?;
+            line.text("\n")
+        }
+    }
+}
+
+/// Adds the lines of the plans, of the program and of the number of endings.
 #[tactic(auto, unfolding(crate::specs::Text::header_text))]
 fn add_header(line: &mut Line, header: &Header, count: u32, endings: u64) -> Result<(), OutOfMemory>
     ensures { OnOk result (line.new ≡
         line.old ++ header_text header.now.is_weak header.now.seed header.now.first
-        count endings) }
+        count header.now.program endings) }
 {
     add_plans_line(line, header, count)?;
+    add_program(line, header.program)?;
     line.text("endings ")?;
     line.decimal(endings)?;
     line.text("\n")

@@ -6,8 +6,8 @@ use crate::ending::Ending;
 use crate::row::Row;
 use pages::OutOfMemory;
 
-/// The row of an ending, where there is one.
-pub(crate) fn index_of(rows: &[Row], ending: &Ending) -> Option<usize>
+/// The place among some rows of the row of an ending, where there is one.
+pub fn index_of(rows: &[Row], ending: &Ending) -> Option<usize>
     ensures { MatchOption result (IsNew rows.now ending.now) (λ i. (i < length rows.now) ×
         HoldsAt (λ r. r.ending ≡ ending.now) rows.now i) }
 {

@@ -1,8 +1,9 @@
 ghost use Rattle.std.specs.Prelude.{◌≡◌, ◌⊎◌, ◌↔◌, ◌+◌, ◌<◌, ◌^◌, Err, IfErr, IsTrue, OnOk};
 ghost use Rattle.host_io.specs.declared.error.RunError.TheVariants as refusals;
 ghost use Rattle.hunt_table.specs.Merging.{Adjoins, IsAppended, harts_of};
-ghost use Rattle.hunt_table.specs.declared.merge_error.MergeError.TheVariants.{Apart, Run};
+ghost use Rattle.hunt_table.specs.declared.merge_error.MergeError.TheVariants.{Apart, OtherProgram, Run};
 
+use crate::fingerprint::are_same_programs;
 use crate::header::Header;
 use crate::merge_error::MergeError;
 use crate::seen_range::are_same_ranges;
@@ -10,7 +11,7 @@ use crate::table::Table;
 use plan_hunt::{Row, join};
 
 /// How many harts the endings have, by the first; 0 where there is none.
-pub(crate) fn harts_of(rows: &[Row]) -> usize
+pub fn harts_of(rows: &[Row]) -> usize
     ensures { result ≡ harts_of rows.now }
 {
     match rows {
@@ -39,7 +40,8 @@ fn follows(header: &Header, next: &Header) -> bool
 fn adjoins(whole: &Table, table: &Table, harts: usize) -> bool
     ensures { IsTrue result ↔ Adjoins harts whole.now table.now }
 {
-    table.header.is_weak == whole.header.is_weak
+    are_same_programs(table.header.program, whole.header.program)
+        && table.header.is_weak == whole.header.is_weak
         && table.header.seed == whole.header.seed
         && are_same_ranges(&table.header.ranges, &whole.header.ranges)
         && harts_of(&table.rows) == harts
@@ -51,8 +53,14 @@ pub(crate) fn append(whole: &mut Table, table: Table, harts: usize) -> Result<()
     ensures ok { OnOk result (Adjoins harts whole.old table ×
         IsAppended whole.old table whole.new) }
     ensures apart { result ≡ Err Apart → Adjoins harts whole.old table → ⊥ }
-    ensures errors { IfErr result (λ e. (e ≡ Apart) ⊎ (e ≡ Run refusals.OutOfMemory)) }
+    ensures other { result ≡ Err OtherProgram →
+        table.header.program ≡ whole.old.header.program → ⊥ }
+    ensures errors { IfErr result (λ e. (e ≡ Apart) ⊎ (e ≡ OtherProgram) ⊎
+        (e ≡ Run refusals.OutOfMemory)) }
 {
+    if !are_same_programs(table.header.program, whole.header.program) {
+        return Err(MergeError::OtherProgram);
+    }
     if !adjoins(whole, &table, harts) {
         return Err(MergeError::Apart);
     }

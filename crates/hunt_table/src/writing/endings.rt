@@ -10,7 +10,7 @@ use report_lines::{Line, add_stop};
 
 /// How endings are written.
 #[derive(Clone, Copy)]
-pub(crate) struct EndingForm<'a> {
+pub struct EndingForm<'a> {
     /// Behind the first plan of each it is told that RVWMO allows that execution.
     pub is_weak: bool,
     /// Bad ones are marked.
@@ -222,9 +222,13 @@ fn add_plans(
     line.text("\n")
 }
 
-/// Adds an ending.
+/// Adds an ending of this number.
+///
+/// # Errors
+///
+/// As `add_table`.
 #[tactic(auto, unfolding(crate::specs::Text::ending_text))]
-pub(crate) fn add_ending(
+pub fn add_ending(
     line: &mut Line,
     form: &EndingForm<'_>,
     number: u64,

@@ -21,6 +21,11 @@ returns-in_err-table-clause-not_a_table g c = λ e.
     let p = err_from_is_err_and c.from_residual.result c.from_residual.ensures.1 in
     c.in_err-table.ensures.not_a_table (cc (p.1, p.2))
 
+pub returns-in_err-table-clause-other : goal.returns-in_err-table-clause-other
+returns-in_err-table-clause-other g c = λ e.
+    let p = err_from_is_err_and c.from_residual.result c.from_residual.ensures.1 in
+    c.in_err-table.ensures.other (cc (p.1, p.2))
+
 pub returns-in_err-write_table-clause-writes : goal.returns-in_err-write_table-clause-writes
 returns-in_err-write_table-clause-writes g c =
     let p = err_from_is_err_and c.from_residual-in_err-write_table.result c.from_residual-in_err-write_table.ensures.1 in

@@ -5,10 +5,10 @@ use Rattle.std.proofs.lemmas.List.{take_all}
 use Rattle.std.proofs.lemmas.Grind.{common_steps}
 use Rattle.std.proofs.lemmas.Result.{err_from_is_err_and}
 use Rattle.hunt_table.specs.Merging.{Adjoins, AreTexts, IsNoTable, harts_of}
-use Rattle.hunt_table.specs.declared.merge_error.MergeError.TheVariants.{Apart, NotATable}
+use Rattle.hunt_table.specs.declared.merge_error.MergeError.TheVariants.{Apart, NotATable, OtherProgram}
 use Rattle.hunt_table.specs.declared.read_error.ReadError.TheVariants as reading
 use Rattle.hunt_table.specs.Refusals.{refusal_of}
-use Rattle.hunt_table.proofs.Slices.{apart_from, first_apart, first_text, is_read, next_table, next_text, no_table, no_texts, one_table, same_refusal, tell_slices, texts_of}
+use Rattle.hunt_table.proofs.Slices.{apart_from, first_apart, first_text, is_read, next_table, next_text, no_table, no_texts, one_table, other_from, same_refusal, tell_slices, texts_of}
 use Rattle.hunt_table.proofs.merging.merged.Goals as goal
 
 pub returns-then-not-are_few-clause-apart : goal.returns-then-not-are_few-clause-apart
@@ -61,6 +61,28 @@ returns-in_err-append-clause-apart c = λ e.
       are_texts = texts_of (take (index + 1) texts) ((first ∷ tables) ++ t ∷ []) read;
       apart = apart_from (take (index + 1) texts) first tables c.loop-text.whole t read c.loop-text.invariant.3 (subst (λ (h : ℕ). Adjoins h c.loop-text.whole t → ⊥) c.loop-text.invariant.4 not);
     })
+
+pub returns-in_err-append-clause-other : goal.returns-in_err-append-clause-other
+returns-in_err-append-clause-other c = λ e.
+    let texts = c.args.texts.now in
+    let index = c.loop-text.text-index + 1 in
+    let at : c.text-item.result ≡ get_or texts index c.text-item.result = grind (arith, common_steps, c.text-item.is) in
+    let among : index < length texts = omega (arith, c.loop-text-test.true) in
+    let p = err_from_is_err_and c.from_residual-in_err-append.result c.from_residual-in_err-append.ensures.1 in
+    let same : c.in_err-append.field-0.0 ≡ OtherProgram = cc (p.1, p.2) in
+    let not = c.in_err-append.ensures.other (cc same) in
+    let first = c.loop-text.invariant.0 in
+    let tables = c.loop-text.invariant.1 in
+    let t = c.in_ok-read_table.field-0 in
+    let read = next_text texts index c.text-item.result (first ∷ tables) t among at c.loop-text.invariant.2 (is_read c.text-item.result c.deref-in-loop-text.result.now c.read_table-in-loop-text.result t c.deref-in-loop-text.ensures.value c.in_ok-read_table.was c.in_ok-read_table.ensures.found c.read_table-in-loop-text.ensures.only) in
+    record {
+      before = index;
+      among = among;
+      slices = tell_slices (take index texts) (first ∷ tables) c.loop-text.invariant.2 c.loop-text.invariant.3.slices;
+      tables = (first ∷ tables) ++ t ∷ [];
+      are_texts = texts_of (take (index + 1) texts) ((first ∷ tables) ++ t ∷ []) read;
+      other = other_from (take (index + 1) texts) first tables c.loop-text.whole t read c.loop-text.invariant.3 (λ same. not same);
+    }
 
 pub loop-text-preserved : goal.loop-text-preserved
 loop-text-preserved c =

@@ -10,6 +10,7 @@ returns-clause-ok c =
     let next : Adjoins c.args.harts w t = search rules in (
       next,
       record {
+        program = refl;
         is_weak = refl;
         seed = refl;
         ranges = refl;
