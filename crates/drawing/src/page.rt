@@ -1,4 +1,4 @@
-ghost use Rattle.std.specs.Prelude.{◌≡◌, ◌⊎◌, ◌≤◌, Err, IfErr, length};
+ghost use Rattle.std.specs.Prelude.{◌≡◌, ◌⊎◌, ◌≤◌, ◌<◌, Err, IfErr, length};
 ghost use Rattle.host_io.specs.declared.error.RunError.TheVariants as refusals;
 
 use crate::boxes::{moving, operation_box, reading};
@@ -125,6 +125,7 @@ pub fn write_execution_picture<S: Sink>(
 ) -> Result<(), RunError>
     requires { length scene.now.harts.now ≤ MOST_HARTS }
     ensures errors { IfErr result (λ e. (e ≡ refusals.OutOfMemory) ⊎ (e ≡ refusals.SinkFailed)) }
+    ensures sink { result ≡ Err refusals.SinkFailed → S.failures out.old < S.failures out.new }
     ensures memory { result ≡ Err refusals.OutOfMemory → S.took out.new ≡ S.took out.old }
 {
     let line = picture(alloc, scene)?;

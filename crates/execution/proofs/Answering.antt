@@ -7,6 +7,8 @@ use Rattle.rv64_decode.specs.declared.instruction.Instr.{Instr}
 use Rattle.rv64_decode.specs.declared.ordering.AcquireRelease.{AcquireRelease}
 use Rattle.rv64_decode.specs.Table.{instr_of}
 use Rattle.round_schedule.specs.declared.access.Access.{Access}
+use Rattle.round_schedule.specs.Accesses.{read_of}
+use Rattle.round_schedule.specs.declared.access.Stepped.{Stepped}
 use Rattle.round_schedule.specs.declared.access.Stepped.TheVariants.{Done, Stopped, Waits}
 use Rattle.round_schedule.specs.declared.span.Span.{Span}
 use Rattle.round_schedule.specs.Schedule.{SerialOutcome}
@@ -19,6 +21,7 @@ use Rattle.hart_step.specs.SerialStep.{called, conditional_by, exchanged_by, is_
 use Rattle.hart_step.specs.Step.{branched, by_instr, by_word, jumped, read_by, stopped_by, written_by}
 use Rattle.hart_step.proofs.ByWord.{of_test, of_word}
 use Rattle.execution.specs.Executions.{IsLike, IsStep}
+use Rattle.execution.specs.Progressing.{IsRead}
 
 abbrev Goes_on : SerialOutcome Hart ConsoleState → Type 0
 Goes_on o = o.answer ≡ Waits → ⊥
@@ -96,6 +99,33 @@ unfolding serial_stepped
 stopped_console n h m c r code =
     of_word (Quiet c code) (fetched m h.pc) (with_console c (stopped_by h 3)) (with_console c (stopped_by h 2)) (λ i. served (action i h.x h.pc) n h m c r)
     (λ e. refl) (λ e. refl) (λ i. served_quiet m (action i h.x h.pc) n h c r code)
+
+-- and so does one that reads a number
+abbrev ReadsQuietly : ConsoleState → ℕ → SerialOutcome Hart ConsoleState → Type 0
+ReadsQuietly c v o = (a : Access) → o.answer ≡ Done (Some a) → read_of a ≡ Some v → o.console ≡ c
+
+served_reading : (m : Memory) (a : Action) (n : ℕ) (h : Hart) (c : ConsoleState) (r : Option Span) (v : ℕ) → ReadsQuietly c v (served a n h m c r)
+served_reading m (Put rd x) n h c r v = λ a e is. refl
+served_reading m (Jump rd t) n h c r v = λ a e is. refl
+served_reading m (Branch b t) n h c r v = λ a e is. refl
+served_reading m (Read rd x w s) n h c r v = λ a e is. refl
+served_reading m (Write x w y) n h c r v = λ a e is. refl
+served_reading m (Order before after mode) n h c r v = λ a e is. refl
+served_reading m (Halt k) n h c r v = λ a e is. refl
+served_reading m (Reserve rd x w o) n h c r v = λ a e is. refl
+served_reading m (Conditional rd x w y o) n h c r v = λ a e is. refl
+served_reading m (Exchange rd x w f o) n h c r v = λ a e is. refl
+served_reading m Call n h c r v = of_test (ReadsQuietly c v) (reg h.x 17 == 0) _ _ (λ a e is. refl) (λ a e is. cc)
+
+reading_console : (n : ℕ) (h : Hart) (m : Memory) (c : ConsoleState) (r : Option Span) (v : ℕ) → ReadsQuietly c v (serial_stepped n h m c r)
+unfolding serial_stepped
+reading_console n h m c r v =
+    of_word (ReadsQuietly c v) (fetched m h.pc) (with_console c (stopped_by h 3)) (with_console c (stopped_by h 2)) (λ i. served (action i h.x h.pc) n h m c r)
+    (λ a e is. refl) (λ a e is. refl) (λ i. served_reading m (action i h.x h.pc) n h c r v)
+
+pub step_reading_console : (image : Memory) (n : ℕ) (own : Option Span) (c d : ConsoleState) (h g : Hart) (answer : Stepped) (v : ℕ) →
+    IsStep image n own c d h g answer → IsRead answer v → d ≡ c
+step_reading_console image n own c d h g answer v s is = s.console ∙ reading_console n h s.seen c s.held v is.0 (s.answers ∙ is.1) is.2
 
 undecoded : (w : Option ℕ) (h : Hart) (c : ConsoleState) (f : Instr → SerialOutcome Hart ConsoleState) (a : Option Access) →
     instr_in w ≡ None → (by_word w (with_console c (stopped_by h 3)) (with_console c (stopped_by h 2)) f).answer ≡ Done a → ⊥

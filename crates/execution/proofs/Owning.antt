@@ -1,5 +1,5 @@
 -- The reservations that harts' own LRs and SCs leave them, step by step.
-use Rattle.std.proofs.Common.{◌≡◌, ◌≢◌, ℕ, ◌<◌, ◌==◌, length, get_or, slice_set, sym, inl, inr, arith, Bool, true, false, if◌then◌else◌, List, [], ◌∷◌, ◌++◌, Option, Some, None, refl, ap, ◌∙◌}
+use Rattle.std.proofs.Common.{◌≡◌, ◌≢◌, ℕ, ◌<◌, ◌==◌, length, get_or, slice_set, sym, inl, inr, arith, if◌then◌else◌, List, [], ◌∷◌, ◌++◌, Option, None, refl, ap, ◌∙◌}
 use Rattle.std.proofs.lemmas.List.{get_or-set_other, get_or-set_same}
 use Rattle.std.proofs.lemmas.Bool.{cases_eq, cond-true, cond-false, eq-eqb, ne_eqb}
 use Rattle.round_schedule.specs.declared.access.Access.{Access}
@@ -7,6 +7,7 @@ use Rattle.round_schedule.specs.declared.event.Event.{Event}
 use Rattle.round_schedule.specs.declared.span.Span.{Span}
 use Rattle.round_schedule.specs.Held.{held_after_own}
 use Rattle.pages.specs.Memory.{Memory}
+use Rattle.execution.specs.declared.step.ScriptedStep.{ScriptedStep}
 use Rattle.execution.specs.Executions.{Executes, Standing, Takes, begins, goes, own_held, own_held_from, stops}
 use Rattle.execution.specs.Progressing.{step_event}
 
@@ -25,8 +26,8 @@ executes_on image p q r x (begins _) = x
 executes_on image p q r x (goes i _ s _ y z) = goes i p s r (executes_on image p q s x y) z
 executes_on image p q r x (stops i _ s _ y z) = stops i p s r (executes_on image p q s x y) z
 
-pub executes_more : (image : Memory) (i n : ℕ) (p q r : Standing) → Executes image p q → Takes image i n q r → Executes image p r
-executes_more image i n p q r x t = elim t.step [ inl g ↦ goes i p q r x g | inr s ↦ stops i p q r x s ]
+pub executes_more : (image : Memory) (s : ScriptedStep) (p q r : Standing) → Executes image p q → Takes image s q r → Executes image p r
+executes_more image s p q r x t = elim t.step [ inl g ↦ goes s.hart p q r x g | inr z ↦ stops s.hart p q r x z ]
 
 pub owned_step : (own : List (Option Span)) (t : List Event) (n i : ℕ) (a : Option Access) (held kept : Option Span) → length own ≡ n → i < n → ((j : ℕ) → j < n → get_or own j None ≡ own_held j t) →
     held ≡ own_held i t → kept ≡ held_after_own (step_event 0 a).access held → (j : ℕ) → j < n → get_or (slice_set own i kept) j None ≡ own_held j (t ++ step_event i a ∷ [])

@@ -14,6 +14,8 @@ use Rattle.hart_step.specs.declared.hart.Hart.{Hart}
 use Rattle.hart_step.specs.DecodedCode.{decoded}
 use Rattle.hart_step.specs.Console.{ConsoleState}
 use Rattle.hart_step.specs.SerialStep.{serial_stepped}
+use Rattle.round_schedule.specs.Accesses.{read_of}
+use Rattle.execution.specs.declared.step.ScriptedStep.{ScriptedStep}
 
 -- memory of the image's size and with its code, and any bytes elsewhere
 pub record IsLike (image m : Memory) : Type 0 where
@@ -100,7 +102,8 @@ pub data Executes (image : Memory) : Standing → Standing → Type 0 where
   goes : (i : ℕ) (p q r : Standing) → Executes image p q → Goes image i q r → Executes image p r
   stops : (i : ℕ) (p q r : Standing) → Executes image p q → Stops image i q r → Executes image p r
 
--- hart i does its next instruction in round n, or stops
-pub record Takes (image : Memory) (i n : ℕ) (p q : Standing) : Type 0 where
-  pub round : q.round ≡ n
-  pub step : Goes image i p q ⊎ Stops image i p q
+-- the step's hart does its next instruction in the step's round, or stops; what the instruction reads is the step's number
+pub record Takes (image : Memory) (s : ScriptedStep) (p q : Standing) : Type 0 where
+  pub round : q.round ≡ s.round
+  pub step : Goes image s.hart p q ⊎ Stops image s.hart p q
+  pub reads : (e : Event) (v : ℕ) → q.events ≡ p.events ++ e ∷ [] → read_of e.access ≡ Some v → s.number ≡ Some v

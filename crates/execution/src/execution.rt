@@ -1,7 +1,7 @@
-ghost use Rattle.std.specs.Prelude.{◌≡◌, ◌≤◌, ◌^◌, length, IfOk, MatchOption, OnErr};
+ghost use Rattle.std.specs.Prelude.{◌≡◌, ◌≤◌, ◌^◌, length, IfOk, OnErr};
 ghost use Rattle.pages.specs.Memory.{Memory};
-ghost use Rattle.execution.specs.Executions.{IsLike, Takes};
-ghost use Rattle.execution.specs.Progressing.{HasNoStep, at_start};
+ghost use Rattle.execution.specs.Executions.{IsLike};
+ghost use Rattle.execution.specs.Progressing.{IsTaken, at_start};
 
 use crate::progress::{Progress, take_step};
 use crate::step::ScriptedStep;
@@ -66,17 +66,14 @@ impl Execution {
     }
 
     /// The next step of a hart, or why there is none. Whatever the step says, the hart does the instruction of the image, as the
-    /// instruction set has it.
+    /// instruction set has it; where the instruction reads, it reads the step's number.
     ///
     /// # Errors
     ///
     /// `OutOfMemory` alone, and the execution stands where it stood.
     pub fn take_step(&mut self, step: ScriptedStep) -> Result<Option<StepFault>, OutOfMemory>
         ensures like { (image : Memory) → IsLike image self.old.memory → IsLike image self.new.memory }
-        ensures took { IfOk result (λ fault. MatchOption fault
-            ((image : Memory) → IsLike image self.old.memory →
-            Takes image step.hart step.round self.old.standing self.new.standing)
-            (λ f. HasNoStep f step.hart step.round self.old.standing × (self.new.standing ≡ self.old.standing))) }
+        ensures took { IfOk result (λ fault. IsTaken fault self.old.memory step self.old.standing self.new.standing) }
         ensures refused { OnErr result (self.new.standing ≡ self.old.standing) }
     {
         take_step(&mut self.progress, step)

@@ -1,10 +1,10 @@
-ghost use Rattle.std.specs.Prelude.{◌≡◌, IfOk, MatchOption, OnErr};
+ghost use Rattle.std.specs.Prelude.{◌≡◌, IfOk, OnErr};
 ghost use Rattle.pages.specs.Memory.{Memory};
-ghost use Rattle.execution.specs.Executions.{IsLike, Takes};
-ghost use Rattle.execution.specs.Progressing.{HasNoStep, IsReady, standing};
+ghost use Rattle.execution.specs.Executions.{IsLike};
+ghost use Rattle.execution.specs.Progressing.{IsReady, IsTaken, standing};
 
 use crate::noting::{event_of, note, own_held_after, reserve_one};
-use crate::reading::laid_for;
+use crate::reading::{laid_for, other_read};
 use crate::step::{ScriptedStep, do_step, instruction_at};
 use crate::step_fault::StepFault;
 use hart_step::Hart;
@@ -38,11 +38,8 @@ pub(crate) fn take_step(
     ensures ready { IsReady progress.new }
     ensures like { (image : Memory) → IsLike image progress.old.shared.pages.memory →
         IsLike image progress.new.shared.pages.memory }
-    ensures took { IfOk result (λ fault. MatchOption fault
-        ((image : Memory) → IsLike image progress.old.shared.pages.memory →
-        Takes image step.hart step.round (standing progress.old) (standing progress.new))
-        (λ f. HasNoStep f step.hart step.round (standing progress.old) ×
-        (standing progress.new ≡ standing progress.old))) }
+    ensures took { IfOk result (λ fault. IsTaken fault progress.old.shared.pages.memory step
+        (standing progress.old) (standing progress.new)) }
     ensures refused { OnErr result (standing progress.new ≡ standing progress.old) }
 {
     let index = usize::from(step.hart);
@@ -61,6 +58,9 @@ pub(crate) fn take_step(
     reserve_one(&mut progress.instructions, &mut progress.events)?;
     let laid = laid_for(&hart, &next, step.number);
     let answer = do_step(&mut hart, &mut progress.shared, own, laid, step)?;
+    if let Some(read) = other_read(answer, step.number) {
+        return Ok(Some(StepFault::OtherNumber { read }));
+    }
     progress.round = step.round;
     progress.harts[index] = hart;
     match answer {

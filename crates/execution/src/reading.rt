@@ -1,5 +1,9 @@
+ghost use Rattle.std.specs.Prelude.{◌≡◌, ◌≢◌, ◌↔◌, ℕ, MatchOption, Some, true};
+ghost use Rattle.execution.specs.Progressing.{IsRead};
+
 use hart_step::Hart;
 use pages::{Store, Width};
+use round_schedule::Stepped;
 use rv64_decode::{Atomic, AtomicWidth, Instr, Reg};
 
 /// A number laid where the next instruction of a hart reads one; none where it reads none.
@@ -40,6 +44,28 @@ fn laid_by(h: &Hart, word: Atomic, number: u64) -> Option<Store> {
         Atomic::LoadReserved { rs1, width, .. } => Some(store(h, rs1, 0, width_of(width), number)),
         Atomic::StoreConditional { .. } => None,
         Atomic::Operation { rs1, width, .. } => Some(store(h, rs1, 0, width_of(width), number)),
+    }
+}
+
+/// What an instruction read, where that isn't the number that it was given.
+pub(crate) fn other_read(answer: Stepped, given: Option<u64>) -> Option<u64>
+    ensures { MatchOption result ((v : ℕ) → IsRead answer v → given ≡ Some v) (λ v. IsRead answer v × (given ≢ Some v)) }
+{
+    let Stepped::Done(Some(access)) = answer else {
+        return None;
+    };
+    match access.number_read() {
+        Some(read) if !is_given(given, read) => Some(read),
+        _ => None,
+    }
+}
+
+fn is_given(given: Option<u64>, read: u64) -> bool
+    ensures { result ≡ true ↔ given ≡ Some read }
+{
+    match given {
+        Some(number) => number == read,
+        None => false,
     }
 }
 

@@ -7,4 +7,9 @@ pub enum StepFault {
     RoundFalls,
     /// The hart has stopped.
     HasStopped,
+    /// The instruction reads another number than the step's.
+    OtherNumber {
+        /// The number that it reads.
+        read: u64,
+    },
 }

@@ -12,7 +12,7 @@ use Rattle.execution_checker.specs.Allowed.{Follows, IsJudged, IsVerdict, follow
 
 pub followed : (image : Memory) (ss : List ScriptedStep) (p q : Standing) → Follows image ss p q → Executes image p q
 followed image _ p _ (follows-none _) = begins p
-followed image _ p q (follows-more ss s _ r _ f t) = executes_more image s.hart s.round p r q (followed image ss p r f) t
+followed image _ p q (follows-more ss s _ r _ f t) = executes_more image s p r q (followed image ss p r f) t
 
 pub at_none : {A : Type 0} (o : Option A) (P : Type 0) (Q : A → Type 0) → o ≡ None → MatchOption o P Q → P
 at_none o P Q none h = subst (λ x. MatchOption x P Q) none h
@@ -22,7 +22,7 @@ abbrev pub no_step : ScriptedStep
 no_step = record { hart = 0; round = 0; number = None; holds = false }
 
 pub followed_on : (image m : Memory) (ss : List ScriptedStep) (index : ℕ) (p q r : Standing) → index < length ss → Follows image (take index ss) p q → IsLike image m →
-    ((i : Memory) → IsLike i m → Takes i (get_or ss index no_step).hart (get_or ss index no_step).round q r) → Follows image (take (index + 1) ss) p r
+    ((i : Memory) → IsLike i m → Takes i (get_or ss index no_step) q r) → Follows image (take (index + 1) ss) p r
 followed_on image m ss index p q r l f like taken =
     subst (λ (ts : List ScriptedStep). Follows image ts p r) (sym (ap (λ (n : ℕ). take n ss) (add-one index) ∙ take-suc ss index no_step l))
     (follows-more (take index ss) (get_or ss index no_step) p q r f (taken image like))

@@ -19,13 +19,13 @@ Allows opening q g = MeetsRvwmoBy (DependencyRule q.instructions q.events) q.eve
 pub data Follows (image : Memory) : List ScriptedStep → Standing → Standing → Type 0 where
   follows-none : (p : Standing) → Follows image [] p p
   follows-more : (ss : List ScriptedStep) (s : ScriptedStep) (p q r : Standing) →
-      Follows image ss p q → Takes image s.hart s.round q r → Follows image (ss ++ s ∷ []) p r
+      Follows image ss p q → Takes image s q r → Follows image (ss ++ s ∷ []) p r
 
--- a script can be followed up to the step at an index, whose hart has no next one
+-- a script can be followed up to the step at an index, which its hart doesn't take next
 pub record BreaksAt (image : Memory) (ss : List ScriptedStep) (index : ℕ) (fault : StepFault) (p q : Standing) : Type 0 where
   pub within : index < length ss
   pub up_to : Follows image (take index ss) p q
-  pub here : (s : ScriptedStep) → s ≡ slice_index_or ss index s → HasNoStep fault s.hart s.round q
+  pub here : (s : ScriptedStep) → s ≡ slice_index_or ss index s → HasNoStep fault image s q
 
 -- the verdict on what was done, in an order: where it is refused, the reason is so
 abbrev pub IsJudged : Verdict → (ℕ → ℕ) → Standing → List ℕ → Type 0

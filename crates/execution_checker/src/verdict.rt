@@ -73,5 +73,6 @@ fn words_of(fault: StepFault) -> &'static str {
         StepFault::NoSuchHart => "there is no such hart",
         StepFault::RoundFalls => "its round is before that of an earlier step",
         StepFault::HasStopped => "the hart has stopped",
+        StepFault::OtherNumber { .. } => "it reads another number",
     }
 }

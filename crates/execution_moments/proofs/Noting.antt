@@ -7,6 +7,7 @@ use Rattle.pages.specs.Memory.{Memory}
 use Rattle.round_schedule.specs.declared.event.Event.{Event}
 use Rattle.round_schedule.specs.Positions.{event, no_event}
 use Rattle.hart_step.specs.declared.hart.Hart.{Hart}
+use Rattle.execution.specs.declared.step.ScriptedStep.{ScriptedStep}
 use Rattle.execution.specs.Executions.{Executes, Goes, Standing, Stops, Takes, begins, goes, stops}
 use Rattle.execution_views.specs.Passing.{IsBefore}
 use Rattle.execution_views.proofs.Further.{Further, before_stays, event_stays, length_more}
@@ -98,7 +99,7 @@ stopped image p q r i g old new x is f =
       | inr other ↦ subst (AreBefore image p r) (sym other.1) (same_noted image p q r old further f)
     ]
 
-pub noted : (image : Memory) (p q r : Standing) (i number : ℕ) (g : Hart) (old new : List HartMoment) → Executes image p q → slice_get q.harts i ≡ Some g → Takes image i number q r →
-    Noted r i g old new → AreBefore image p q old → AreBefore image p r new
-noted image p q r i number g old new leads there t is f =
-    elim t.step [ inl x ↦ went image p q r i g old new leads there x is f | inr x ↦ stopped image p q r i g old new x is f ]
+pub noted : (image : Memory) (p q r : Standing) (s : ScriptedStep) (g : Hart) (old new : List HartMoment) → Executes image p q → slice_get q.harts s.hart ≡ Some g → Takes image s q r →
+    Noted r s.hart g old new → AreBefore image p q old → AreBefore image p r new
+noted image p q r s g old new leads there t is f =
+    elim t.step [ inl x ↦ went image p q r s.hart g old new leads there x is f | inr x ↦ stopped image p q r s.hart g old new x is f ]

@@ -2,8 +2,8 @@
 
 ghost use Rattle.std.specs.Prelude.{◌≡◌, [], slice_get, IfOk, MatchOption};
 ghost use Rattle.pages.specs.Memory.{Memory};
-ghost use Rattle.execution.specs.Executions.{Executes, IsLike, Standing, Takes};
-ghost use Rattle.execution.specs.Progressing.{HasNoStep};
+ghost use Rattle.execution.specs.Executions.{Executes, IsLike, Standing};
+ghost use Rattle.execution.specs.Progressing.{IsTaken};
 ghost use Rattle.execution_checker.specs.Allowed.{BreaksAt, Follows};
 ghost use Rattle.execution_moments.specs.Courses.{AreBefore};
 
@@ -27,10 +27,7 @@ fn take_noted(
     step: ScriptedStep,
 ) -> Result<Option<StepFault>, OutOfMemory>
     ensures like { (image : Memory) → IsLike image execution.old.memory → IsLike image execution.new.memory }
-    ensures took { IfOk result (λ fault. MatchOption fault
-        ((image : Memory) → IsLike image execution.old.memory →
-        Takes image step.hart step.round execution.old.standing execution.new.standing)
-        (λ f. HasNoStep f step.hart step.round execution.old.standing × (execution.new.standing ≡ execution.old.standing))) }
+    ensures took { IfOk result (λ fault. IsTaken fault execution.old.memory step execution.old.standing execution.new.standing) }
     ensures moments { IfOk result (λ _. (image : Memory) (p : Standing) → IsLike image execution.old.memory →
         Executes image p execution.old.standing → AreBefore image p execution.old.standing moments.old.items →
         AreBefore image p execution.new.standing moments.new.items) }

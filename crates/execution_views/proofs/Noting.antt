@@ -8,6 +8,7 @@ use Rattle.pages.specs.Memory.{Memory}
 use Rattle.round_schedule.specs.declared.event.Event.{Event}
 use Rattle.round_schedule.specs.Positions.{event, no_event}
 use Rattle.hart_step.specs.declared.hart.Hart.{Hart}
+use Rattle.execution.specs.declared.step.ScriptedStep.{ScriptedStep}
 use Rattle.execution.specs.Executions.{Executes, Goes, Standing, Stops, Takes, begins, goes, stops}
 use Rattle.execution_views.specs.declared.sights.Before.{Before}
 use Rattle.execution_views.specs.declared.sights.HartStep.{HartStep}
@@ -199,9 +200,9 @@ stopped image p q r i g a n m x is f =
       | inr other ↦ subst (AreNotes image p r a) (sym other.1) (notes_same image p q r a n further f)
     ]
 
-pub noted : (image : Memory) (p q r : Standing) (i number : ℕ) (g : Hart) (a : Option HartStep) (n m : Notes) → Executes image p q → slice_get q.harts i ≡ Some g → Takes image i number q r →
-    Noted image p r i g a n m → AreNotes image p q a n → AreNotes image p r a m
-noted image p q r i number g a n m leads there t is f = elim t.step [ inl x ↦ went image p q r i g a n m leads there x is f | inr x ↦ stopped image p q r i g a n m x is f ]
+pub noted : (image : Memory) (p q r : Standing) (s : ScriptedStep) (g : Hart) (a : Option HartStep) (n m : Notes) → Executes image p q → slice_get q.harts s.hart ≡ Some g → Takes image s q r →
+    Noted image p r s.hart g a n m → AreNotes image p q a n → AreNotes image p r a m
+noted image p q r s g a n m leads there t is f = elim t.step [ inl x ↦ went image p q r s.hart g a n m leads there x is f | inr x ↦ stopped image p q r s.hart g a n m x is f ]
 
 -- the steps of one hart are no more than the pcs
 pub few_steps : (image : Memory) (p q : Standing) (a : Option HartStep) (n : Notes) → AreNotes image p q a n → n.steps ≤ length n.sights.pcs.items

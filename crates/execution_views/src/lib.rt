@@ -12,4 +12,4 @@ pub use laws::loads_read_what_is_seen;
 pub use moment::{Moment, bytes_at, moment_of};
 pub use sights::{Before, HartStep, Sights};
 pub use touched::positions_sought;
-pub use walk::follow_seen;
+pub use walk::{Notes, take_noted};

@@ -12,28 +12,17 @@ use crate::comparing::{are_same_harts, are_same_pages};
 use machine::{Observer, UntracedMachine};
 use pages::OutOfMemory;
 use past_harts::asks_number;
-use plan_hunt::HuntObserver;
+use plan_hunt::{HuntObserver, RoundCount};
 use std::sync::Wait;
 use std::thread::Threads;
 
-/// After how many rounds a hunt's observer is told of them.
-const TOLD_AT_ONCE: u32 = 64;
-
-/// Counts a run's rounds, and tells a hunt's observer of them.
+/// Counts a run's rounds.
 #[derive(Drop)]
-struct Counted<'a, O> {
-    observer: &'a O,
-    /// How many it wasn't told of yet.
-    untold: u32,
-}
+struct Counted<'a, O>(RoundCount<'a, O>);
 
 impl<O: HuntObserver> Observer for Counted<'_, O> {
     fn after_round(&mut self, _machine: &UntracedMachine) {
-        self.untold = self.untold.saturating_add(1);
-        if self.untold >= TOLD_AT_ONCE {
-            self.observer.after_rounds(self.untold);
-            self.untold = 0;
-        }
+        self.0.add();
     }
 }
 
@@ -48,12 +37,9 @@ pub(crate) fn go_on<O: HuntObserver, R: Threads + Wait + Sync>(
     ensures run { OnOk result (IsAfter rounds machine.old machine.new) }
     ensures counted { OnOk result (machine.new.rounds ≡ machine.old.rounds + rounds) }
 {
-    let mut counted = Counted {
-        observer,
-        untold: 0,
-    };
+    let mut counted = Counted(RoundCount::new(observer));
     let answer = machine.run_observed(rt, rounds, 1, &mut counted);
-    observer.after_rounds(counted.untold);
+    counted.0.end();
     // No other refusal is left.
     match answer {
         Ok(()) => Ok(()),

@@ -9,6 +9,7 @@ use access_times::{History, Memory};
 use departures::{Departure, Draws, Listed, Record};
 use hart_step::Hart;
 use pages::{OutOfMemory, Pages};
+use plan_hunt::{HuntObserver, RoundCount, UnobservedHunt};
 use serial_phase::SharedState;
 use std::alloc::Global;
 
@@ -182,6 +183,21 @@ impl TimedMachine {
     ///
     /// `OutOfMemory` alone.
     pub fn run_within(&mut self, rows: &[Vec<u32>], bounds: Bounds) -> Result<(), OutOfMemory> {
+        self.run_observed(rows, bounds, &UnobservedHunt)
+    }
+
+    /// The same, and an observer learns of the rounds while they are done.
+    ///
+    /// # Errors
+    ///
+    /// `OutOfMemory` alone.
+    pub fn run_observed<O: HuntObserver>(
+        &mut self,
+        rows: &[Vec<u32>],
+        bounds: Bounds,
+        observer: &O,
+    ) -> Result<(), OutOfMemory> {
+        let mut count = RoundCount::new(observer);
         let mut row = 0;
         for _ in 0..bounds.rounds {
             if self.common.steps >= bounds.steps || self.have_stopped() || self.is_broken() {
@@ -196,8 +212,10 @@ impl TimedMachine {
                     break;
                 }
                 row += 1;
+                count.add();
             }
         }
+        count.end();
         for hart in self.harts.iter_mut() {
             put_ripe(&mut hart.timing, &mut self.common, &Ripe::All)?;
         }

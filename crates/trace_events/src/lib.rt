@@ -8,5 +8,5 @@ mod slices;
 mod writers;
 mod writing;
 
-pub use located::write_event_with_pc;
+pub use located::located_line;
 pub use writing::write_trace_events;

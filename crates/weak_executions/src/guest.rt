@@ -3,6 +3,7 @@ ghost use Rattle.std.specs.Prelude.{◌≤◌, length};
 use crate::opening::{Opening, shared};
 use departures::{Departure, Draws, EarlyStores, Record, Stream};
 use pages::OutOfMemory;
+use plan_hunt::{HuntObserver, UnobservedHunt};
 use round_planner::Family;
 use round_schedule::MOST_HARTS;
 use std::alloc::Global;
@@ -59,6 +60,19 @@ impl<'a> WeakGuest<'a> {
         self.execute_within(number, is_recorded, self.bounds)
     }
 
+    /// The same without a record, and an observer learns of the rounds while they are done.
+    ///
+    /// # Errors
+    ///
+    /// `OutOfMemory` alone.
+    pub fn execute_observed<O: HuntObserver>(
+        &self,
+        number: u32,
+        observer: &O,
+    ) -> Result<TimedMachine, OutOfMemory> {
+        self.made(number, false, self.bounds, observer)
+    }
+
     /// The same within other bounds. In each fifth number a store comes early, where an execution without departures has one that
     /// can; in the others loads read old and stores come late.
     ///
@@ -71,39 +85,52 @@ impl<'a> WeakGuest<'a> {
         is_recorded: bool,
         bounds: Bounds,
     ) -> Result<TimedMachine, OutOfMemory> {
+        self.made(number, is_recorded, bounds, &UnobservedHunt)
+    }
+
+    /// The execution of a number within these bounds.
+    fn made<O: HuntObserver>(
+        &self,
+        number: u32,
+        is_recorded: bool,
+        bounds: Bounds,
+        observer: &O,
+    ) -> Result<TimedMachine, OutOfMemory> {
         let early = match Draws::early(self.seed, number) {
-            Some(stream) => self.execute_early(number, is_recorded, bounds, stream)?,
+            Some(stream) => self.execute_early(number, is_recorded, bounds, stream, observer)?,
             None => None,
         };
         match early {
             Some(machine) => Ok(machine),
-            None => self.ran(self.machine(number, is_recorded)?, number, bounds),
+            None => self.ran(self.machine(number, is_recorded)?, number, bounds, observer),
         }
     }
 
     /// A machine after it has gone by the plan of a number.
-    fn ran(
+    fn ran<O: HuntObserver>(
         &self,
         machine: TimedMachine,
         number: u32,
         bounds: Bounds,
+        observer: &O,
     ) -> Result<TimedMachine, OutOfMemory> {
         let mut machine = machine;
-        match self.run(&mut machine, number, bounds) {
+        match self.run(&mut machine, number, bounds, observer) {
             Ok(()) => Ok(machine),
             Err(error) => Err(error),
         }
     }
 
     /// Has a machine go by the plan of a number.
-    fn run(
+    fn run<O: HuntObserver>(
         &self,
         machine: &mut TimedMachine,
         number: u32,
         bounds: Bounds,
+        observer: &O,
     ) -> Result<(), OutOfMemory> {
         let rows = self.rows(number)?;
-        machine.run_within(&rows, bounds)
+        machine.run_observed(&rows, bounds, observer)
     }
 
     /// The execution by the plan of a number with just these departures, as far as they can be.
@@ -118,22 +145,37 @@ impl<'a> WeakGuest<'a> {
         is_recorded: bool,
         bounds: Bounds,
     ) -> Result<TimedMachine, OutOfMemory> {
+        self.made_with(number, departures, is_recorded, bounds, &UnobservedHunt)
+    }
+
+    /// The same, and an observer learns of the rounds.
+    fn made_with<O: HuntObserver>(
+        &self,
+        number: u32,
+        departures: Vec<Departure>,
+        is_recorded: bool,
+        bounds: Bounds,
+        observer: &O,
+    ) -> Result<TimedMachine, OutOfMemory> {
         let mut machine = self.machine(number, is_recorded)?;
         machine.depart(departures);
-        self.ran(machine, number, bounds)
+        self.ran(machine, number, bounds, observer)
     }
 
     /// The execution of a number in which a store comes early, if one of those that are tried can.
-    fn execute_early(
+    fn execute_early<O: HuntObserver>(
         &self,
         number: u32,
         is_recorded: bool,
         bounds: Bounds,
         stream: Stream,
+        observer: &O,
     ) -> Result<Option<TimedMachine>, OutOfMemory> {
-        let ordinary = self.ordinary(number)?;
+        let ordinary = self.ordinary(number, observer)?;
         let early = match ordinary.record() {
-            Some(record) => self.execute_like(record, number, is_recorded, bounds, stream),
+            Some(record) => {
+                self.execute_like(record, number, is_recorded, bounds, stream, observer)
+            }
             None => Ok(None),
         };
         drop(ordinary);
@@ -141,13 +183,14 @@ impl<'a> WeakGuest<'a> {
     }
 
     /// The same, where this record is of what the plan does without departures.
-    fn execute_like(
+    fn execute_like<O: HuntObserver>(
         &self,
         record: &Record,
         number: u32,
         is_recorded: bool,
         bounds: Bounds,
         stream: Stream,
+        observer: &O,
     ) -> Result<Option<TimedMachine>, OutOfMemory> {
         let stores = EarlyStores::of(self.alloc, record)?;
         let mut stream = stream;
@@ -156,7 +199,7 @@ impl<'a> WeakGuest<'a> {
                 break;
             };
             let departures = Vec::from_slice(self.alloc, &[departure])?;
-            let machine = self.execute_with(number, departures, is_recorded, bounds)?;
+            let machine = self.made_with(number, departures, is_recorded, bounds, observer)?;
             if machine.came_early() {
                 return Ok(Some(machine));
             }
@@ -165,13 +208,17 @@ impl<'a> WeakGuest<'a> {
     }
 
     /// What the plan of a number does without departures, from which it is drawn which store comes early.
-    fn ordinary(&self, number: u32) -> Result<TimedMachine, OutOfMemory> {
+    fn ordinary<O: HuntObserver>(
+        &self,
+        number: u32,
+        observer: &O,
+    ) -> Result<TimedMachine, OutOfMemory> {
         let bounds = Bounds {
             rounds: self.bounds.rounds,
             steps: self.bounds.steps.min(MOST_STEPS),
             until_fault: true,
         };
-        self.execute_with(number, Vec::new(self.alloc), true, bounds)
+        self.made_with(number, Vec::new(self.alloc), true, bounds, observer)
     }
 
     /// What each execution begins with.

@@ -85,7 +85,7 @@ fn work<O: HuntObserver>(guest: &Guest<'_>, task: &Task<'_, O>, next: &AtomicU64
         let Some(index) = task.claim(next) else {
             break;
         };
-        let Ok(ending) = executed(guest, task.first + index) else {
+        let Ok(ending) = executed(guest, task.first + index, task.observer) else {
             break;
         };
         task.note(next, &ending);
@@ -96,9 +96,13 @@ fn work<O: HuntObserver>(guest: &Guest<'_>, task: &Task<'_, O>, next: &AtomicU64
     found
 }
 
-/// The ending of the execution of a number.
-pub(crate) fn executed(guest: &Guest<'_>, number: u32) -> Result<Ending, OutOfMemory> {
-    let machine = guest.maker.execute(number, false)?;
+/// The ending of the execution of a number. An observer learns of its rounds.
+pub(crate) fn executed<O: HuntObserver>(
+    guest: &Guest<'_>,
+    number: u32,
+    observer: &O,
+) -> Result<Ending, OutOfMemory> {
+    let machine = guest.maker.execute_observed(number, observer)?;
     ending_of(guest, &machine)
 }
 

@@ -81,7 +81,7 @@ fn add_endings<O: HuntObserver>(
             tally.is_over = true;
             return Ok(());
         }
-        let ending = ending_in(guest, made, extent.first + tally.done)?;
+        let ending = ending_in(guest, made, extent.first + tally.done, observer)?;
         add_ending(guest.alloc, extent, ending, tally)?;
         if tally.is_over {
             return Ok(());
@@ -91,10 +91,15 @@ fn add_endings<O: HuntObserver>(
 }
 
 /// The ending in a slot, or where that is empty the one that the execution of its number is found to have.
-fn ending_in(guest: &Guest<'_>, slot: Option<Ending>, number: u32) -> Result<Ending, OutOfMemory> {
+fn ending_in<O: HuntObserver>(
+    guest: &Guest<'_>,
+    slot: Option<Ending>,
+    number: u32,
+    observer: &O,
+) -> Result<Ending, OutOfMemory> {
     match slot {
         Some(ending) => Ok(ending),
-        None => executed(guest, number),
+        None => executed(guest, number, observer),
     }
 }
 
