@@ -1,9 +1,10 @@
 -- As many harts stand behind a step as before it, and a file has as many lines.
-use Rattle.std.proofs.Common.{◌≡◌, ◌⊎◌, ◌+◌, ◌∙◌, ℕ, List, [], ◌∷◌, MatchOption, None, Option, Some, ap, length, refl, suc, zero, ⊎_elim}
+use Rattle.std.proofs.Common.{◌≡◌, ◌⊎◌, ◌+◌, ◌∙◌, ℕ, List, [], ◌∷◌, None, Option, Some, ap, length, refl, suc, zero, ⊎_elim}
 use Rattle.std.proofs.lemmas.List.{length-set}
 use Rattle.pages.specs.Memory.{Memory}
-use Rattle.execution.specs.Executions.{Goes, IsLike, Standing, Stops, Takes}
-use Rattle.execution.specs.Progressing.{HasNoStep}
+use Rattle.execution.specs.Executions.{Goes, Standing, Stops}
+use Rattle.execution.specs.Progressing.{IsTaken}
+use Rattle.execution.specs.declared.step.ScriptedStep.{ScriptedStep}
 use Rattle.execution.specs.declared.step_fault.StepFault.{StepFault}
 use Rattle.hart_step.specs.declared.hart.Hart.{Hart}
 use Rattle.round_schedule.specs.declared.event.Event.{Event}
@@ -15,13 +16,12 @@ use Rattle.execution_file.specs.Deeds.{deeds, parts_from}
 use Rattle.execution_scripts.specs.Findings.{start_of}
 
 -- a step changes one hart
-pub as_many : (m : Memory) (i n : ℕ) (p q : Standing) (fault : Option StepFault) →
-    MatchOption fault ((image : Memory) → IsLike image m → Takes image i n p q) (λ f. HasNoStep f i n p × (q ≡ p)) → length q.harts ≡ length p.harts
-as_many m i n p q None h =
-    ⊎_elim (λ (g : Goes m i p q). ap (λ (hs : List Hart). length hs) g.harts ∙ length-set p.harts i g.after)
-    (λ (s : Stops m i p q). ap (λ (hs : List Hart). length hs) s.harts ∙ length-set p.harts i s.after)
+pub as_many : (m : Memory) (s : ScriptedStep) (p q : Standing) (fault : Option StepFault) → IsTaken fault m s p q → length q.harts ≡ length p.harts
+as_many m s p q None h =
+    ⊎_elim (λ (g : Goes m s.hart p q). ap (λ (hs : List Hart). length hs) g.harts ∙ length-set p.harts s.hart g.after)
+    (λ (x : Stops m s.hart p q). ap (λ (hs : List Hart). length hs) x.harts ∙ length-set p.harts s.hart x.after)
     (h m (record { size = refl; code = refl; words = λ pc. refl })).step
-as_many m i n p q (Some f) h = ap (λ (s : Standing). length s.harts) h.1
+as_many m s p q (Some f) h = ap (λ (x : Standing). length x.harts) h.1
 
 parts : (h : ℕ) (gs : List Hart) (t : List Event) → length (parts_from h gs t) ≡ length gs
 parts h [] t = refl

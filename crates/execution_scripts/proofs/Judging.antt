@@ -12,8 +12,10 @@ use Rattle.execution.specs.Executions.{Standing}
 use Rattle.execution_checker.specs.declared.verdict.Verdict.{Verdict}
 use Rattle.execution_checker.specs.Allowed.{IsVerdict}
 use Rattle.execution_views.specs.declared.sights.HartStep.{HartStep}
-use Rattle.execution_file.specs.Recorded.{HartDeeds, Turn}
+use Rattle.execution_file.specs.Recorded.{Recorded}
 use Rattle.execution_scripts.specs.Findings.{IsFound, IsJudged, start_of}
+use Rattle.execution_scripts.specs.Misfits.{IsUnsaid}
+use Rattle.execution_scripts.specs.declared.fault.Fault.{Fault as FaultFound}
 use Rattle.execution_scripts.specs.declared.checking.Checked.{Checked}
 use Rattle.execution_scripts.specs.declared.checking.Finding.{Finding}
 use Rattle.execution_scripts.specs.declared.checking.Finding.TheVariants.{Fault, Judged}
@@ -39,8 +41,8 @@ verdict_on image input n ps o m p v ss order q bytes within opened memory start 
     same : opening_at o ≡ (λ x. slice_index image.bytes x)
     same = λ i. λ x. at_byte x i
 
--- what is found, where it is so of each verdict that it may be
-pub found_on : (g : Guest) (parts : List HartDeeds) (turns : List Turn) (asked : Option HartStep) (f : Finding) (c : Checked) →
-    ((v : Verdict) → f ≡ Judged v → IsJudged g parts turns asked v c) → IsFound g parts turns asked f c
-found_on g parts turns asked (Judged v) c h = h v refl
-found_on g parts turns asked (Fault f) c h = tt
+-- what is found, where it is so of each verdict and of each fault that it may be
+pub found_by : (g : Guest) (r : Recorded) (asked : Option HartStep) (f : Finding) (c : Checked) → ((v : Verdict) → f ≡ Judged v → IsJudged g r asked v c) →
+    ((x : FaultFound) → f ≡ Fault x → IsUnsaid g.shared.memory r (start_of g) x) → IsFound g r asked f c
+found_by g r asked (Judged v) c h u = h v refl
+found_by g r asked (Fault x) c h u = u x refl

@@ -1,3 +1,13 @@
 mod Counted
+mod Ended
+mod Going
 mod Judging
+mod Loops
+mod Moving
+mod Numbers
+mod Opened
+mod Reading
+mod Stepped
+mod Stepping
 mod Unrefused
+mod Ways

@@ -12,13 +12,16 @@ use Rattle.execution_checker.specs.Allowed.{Allows, Follows, IsVerdict}
 use Rattle.execution_views.specs.declared.sights.HartStep.{HartStep}
 use Rattle.execution_views.specs.Walks.{AreSights}
 use Rattle.trace.specs.Traced.{opening_at}
+use Rattle.round_schedule.specs.declared.event.Event.{Event}
 use Rattle.execution_file.specs.Recorded.{HartDeeds, Recorded, Turn}
 use Rattle.execution_file.specs.Deeds.{deeds}
-use Rattle.execution_file.specs.Turns.{AreNames, NamesNone}
+use Rattle.execution_file.specs.Turns.{AreNames}
+use Rattle.execution_scripts.specs.Following.{AreFollowed}
+use Rattle.execution_scripts.specs.Misfits.{IsUnnamed, IsUnsaid}
 use Rattle.execution_scripts.specs.declared.checking.Checked.{Checked}
 use Rattle.execution_scripts.specs.declared.checking.Finding.{Finding}
 use Rattle.execution_scripts.specs.declared.checking.Finding.TheVariants.{Fault, Judged}
-use Rattle.execution_scripts.specs.declared.fault.Misfit.TheVariants.{Otherwise, NoOperation}
+use Rattle.execution_scripts.specs.declared.fault.Misfit.TheVariants.{Otherwise}
 use Rattle.execution_scripts.specs.declared.said.Said.{Said}
 use Rattle.execution_scripts.specs.declared.said.Said.TheVariants as said
 
@@ -40,23 +43,29 @@ pub record IsAsSaid (parts : List HartDeeds) (turns : List Turn) (q : Standing) 
   pub harts : parts ≡ deeds q.harts q.events
   pub order : AreNames turns q.events g
 
+-- the order that turns name, or the first turn that names no operation
+abbrev pub IsNamedBy : List Turn → List Event → Said → Type 0
+IsNamedBy turns t (said.Order g) = AreNames turns t g.0.items
+IsNamedBy turns t (said.Fault f) = IsUnnamed turns t f
+
 -- the order that a file says of an execution; or why it says another one: a hart did otherwise, or a turn names no operation
 abbrev pub IsSaid : List HartDeeds → List Turn → Standing → Said → Type 0
 IsSaid parts turns q (said.Order g) = IsAsSaid parts turns q g.0.items
-IsSaid parts turns q (said.Fault f) =
-    ((f.misfit ≡ Otherwise) × (parts ≢ deeds q.harts q.events)) ⊎ ((f.misfit ≡ NoOperation) × (index : ℕ) × NamesNone turns q.events index)
+IsSaid parts turns q (said.Fault f) = ((f.misfit ≡ Otherwise) × (parts ≢ deeds q.harts q.events)) ⊎ IsUnnamed turns q.events f
 
--- a verdict is on the execution of a guest that a script leads to, in an order of its memory operations; both are as is said; and what is
--- seen is seen on the way of this execution
-pub record IsJudged (g : Guest) (parts : List HartDeeds) (turns : List Turn) (asked : Option HartStep) (v : Verdict) (c : Checked) : Type 0 where
+-- a verdict is on the execution of a guest that a script leads to, in an order of its memory operations; both are as the file says, whose
+-- lines and calls lead there too; and what is seen is seen on the way of this execution
+pub record IsJudged (g : Guest) (r : Recorded) (asked : Option HartStep) (v : Verdict) (c : Checked) : Type 0 where
   pub verdict : IsVerdict v g.shared.memory (λ x. slice_index g.shared.memory.bytes x) c.script.items c.order.0.items (start_of g) c.execution.standing
-  pub as_said : IsAsSaid parts turns c.execution.standing c.order.0.items
+  pub followed : AreFollowed g.shared.memory r.harts r.calls (start_of g) c.execution.standing
+  pub as_said : IsAsSaid r.harts r.order c.execution.standing c.order.0.items
   pub opening : (x : ℕ) → opening_at c.opening.opening x ≡ slice_index g.shared.memory.bytes x
   pub sights : AreSights g.shared.memory (start_of g) c.execution.standing asked c.sights
 
-abbrev pub IsFound : Guest → List HartDeeds → List Turn → Option HartStep → Finding → Checked → Type 0
-IsFound g parts turns asked (Judged v) c = IsJudged g parts turns asked v c
-IsFound g parts turns asked (Fault f) c = Unit {0}
+-- such a verdict, or the first step that isn't as the file says
+abbrev pub IsFound : Guest → Recorded → Option HartStep → Finding → Checked → Type 0
+IsFound g r asked (Judged v) c = IsJudged g r asked v c
+IsFound g r asked (Fault f) c = IsUnsaid g.shared.memory r (start_of g) f
 
 -- RVWMO allows the execution that a file says: a script leads the file's guest to where its harts have done what the file says of them, and
 -- the order of its memory operations that the file's turns name is one that RVWMO allows

@@ -1,2 +1,5 @@
+pub mod Following
+pub mod Misfits
+pub mod Courses
 pub mod Findings
 pub mod RunFiles

@@ -1,5 +1,11 @@
 //! The calls whose order a file tells: to put or get a byte, and to ask for the round.
 
+ghost use Rattle.std.specs.Prelude.{◌≡◌, Some, slice_get};
+ghost use Rattle.hart_step.specs.declared.hart.Hart.{Hart};
+ghost use Rattle.hart_step.specs.Registers.{reg};
+ghost use Rattle.execution_scripts.specs.Courses.{taken_as};
+ghost use Rattle.execution_scripts.specs.Following.{is_call};
+
 use execution_checker::Execution;
 use execution_file::Turn;
 use pages::OutOfMemory;
@@ -17,7 +23,9 @@ pub(crate) enum Taken {
 }
 
 /// The number of the call that a hart's next instruction would be.
-pub(crate) fn call_number(execution: &Execution, hart: u8) -> u64 {
+pub(crate) fn call_number(execution: &Execution, hart: u8) -> u64
+    ensures { (g : Hart) → slice_get execution.now.standing.harts hart ≡ Some g → result ≡ reg g.x 17 }
+{
     match execution.harts().get(usize::from(hart)) {
         Some(hart) => hart.x[17],
         None => 0,
@@ -25,10 +33,33 @@ pub(crate) fn call_number(execution: &Execution, hart: u8) -> u64 {
 }
 
 /// What the instruction at an index of the list was, where x17 was as `call` says.
-pub(crate) fn taken_at(execution: &Execution, index: usize, call: u64) -> Taken {
+pub(crate) fn taken_at(execution: &Execution, index: usize, call: u64) -> Taken
+    ensures { result ≡ taken_as (slice_get execution.now.standing.instructions index) call }
+{
     match execution.instructions().get(index) {
-        Some(Instr::Ecall) if call >= 1 && call <= 3 => Taken::Called { round: call == 3 },
-        _ => Taken::Done,
+        Some(instruction) => taken_as(*instruction, call),
+        None => Taken::Done,
+    }
+}
+
+/// What an instruction is, where x17 is as `call` says.
+fn taken_as(instruction: Instr, call: u64) -> Taken
+    ensures { result ≡ taken_as (Some instruction) call }
+{
+    if is_call(instruction, call) {
+        Taken::Called { round: call == 3 }
+    } else {
+        Taken::Done
+    }
+}
+
+/// Whether it is a call whose position among the calls makes a difference.
+fn is_call(instruction: Instr, call: u64) -> bool
+    ensures { result ≡ is_call instruction call }
+{
+    match instruction {
+        Instr::Ecall => 1 <= call && call <= 3,
+        _ => false,
     }
 }
 

@@ -1,21 +1,25 @@
-ghost use Rattle.std.specs.Prelude.{◌≡◌, ◌≢◌, ◌≤◌, [], All, if◌then◌else◌, length, IfOk};
+ghost use Rattle.std.specs.Prelude.{◌≡◌, ◌≤◌, All, if◌then◌else◌, length, IfOk};
 ghost use Rattle.guest_rounds.specs.Guests.{opening_guest};
 ghost use Rattle.trace.specs.Traced.{HasForm, opening_at};
-ghost use Rattle.execution_checker.specs.Allowed.{IsJudged as Judges, IsVerdict};
+ghost use Rattle.execution_checker.specs.Allowed.{IsJudged as Judges};
 ghost use Rattle.execution_checker.specs.declared.verdict.Verdict.{Verdict};
+ghost use Rattle.execution_file.specs.Turns.{AreNames};
 ghost use Rattle.execution_file.specs.Views.{as_recorded};
-ghost use Rattle.execution_views.specs.Walks.{AreSights};
-ghost use Rattle.execution_scripts.specs.Findings.{IsAsSaid, IsFound, guest_in, image_in};
-ghost use Rattle.execution_scripts.specs.declared.checking.Finding.TheVariants.{Judged};
+ghost use Rattle.execution_scripts.specs.Courses.{HandsOn};
+ghost use Rattle.execution_scripts.specs.Findings.{IsFound, guest_in, image_in};
+ghost use Rattle.execution_scripts.specs.Misfits.{IsUnnamed};
+ghost use Rattle.execution_scripts.specs.declared.checking.Finding.TheVariants as findings;
+ghost use Rattle.execution_scripts.specs.declared.fault.Fault.{Fault as FaultFound};
+ghost use Rattle.execution_scripts.specs.declared.fault.Halt.TheVariants as halts;
 
 use crate::fault::{Fault, Halt};
 use crate::following::Follower;
-use crate::opening::open_execution;
-use crate::said::{Said, order_said, otherwise};
+use crate::said::{Said, order_named_by};
+use crate::way::Way;
 use elf_loader::Image;
 use execution_checker::{Execution, ScriptedStep, Verdict};
 use execution_file::ExecutionFile;
-use execution_views::{HartStep, Sights, follow_seen};
+use execution_views::{HartStep, Notes, Sights};
 use host_io::RunError;
 use machine::{Format, load};
 use memory_order::Order;
@@ -53,8 +57,10 @@ pub struct Checked {
 /// Checks the execution of a file: whether its harts do what the file says, and whether RVWMO allows it in the file's order.
 ///
 /// The verdict is on the script and the execution that are handed back: on the file's image and its input, from its harts at the
-/// entry. In this execution each hart does as many steps as the file says, reads the file's numbers, and ends as the file says; and
-/// the order is the one that the file's turns name, whatever it has. That the calls stand in the file's order is no part of the contract.
+/// entry. In this execution the harts do what the file's lines and calls say, in the order that these say: each does as many steps as
+/// its line says, reads the line's numbers, and ends as the line says. The order is the one that the file's turns name, whatever it has.
+///
+/// A fault is the first step that isn't as the file says: all before it are.
 ///
 /// # Errors
 ///
@@ -64,7 +70,7 @@ pub fn check_file(
     file: &ExecutionFile,
     asked: Option<HartStep>,
 ) -> Result<Checked, RunError>
-    ensures { IfOk result (λ c. IsFound (guest_in (as_recorded file.now)) (as_recorded file.now).harts (as_recorded file.now).order asked c.finding c) }
+    ensures { IfOk result (λ c. IsFound (guest_in (as_recorded file.now)) (as_recorded file.now) asked c.finding c) }
 {
     let harts = file.harts.len();
     if harts < 1 || harts > MOST_HARTS as usize {
@@ -74,8 +80,7 @@ pub fn check_file(
         return Err(RunError::PagesOutOfRange);
     }
     let image = load_image(alloc, file)?;
-    let harts = count_harts(file);
-    check_over(alloc, file, image, harts, asked)
+    check_over(alloc, file, image, asked)
 }
 
 /// The image of a file.
@@ -93,84 +98,86 @@ fn format_of(file: &ExecutionFile) -> Format
     if file.flat { Format::Flat } else { Format::Elf }
 }
 
-/// How many harts a file has, of which there are few.
-fn count_harts(file: &ExecutionFile) -> u32
-    requires { length file.now.harts.items ≤ MOST_HARTS }
-    ensures count { result ≡ length (as_recorded file.now).harts }
-    ensures few { result ≤ MOST_HARTS }
-{
-    file.harts.len() as u32
-}
-
 /// The same, over the file's image.
 fn check_over(
     alloc: Global,
     file: &ExecutionFile,
     image: Image,
-    harts: u32,
     asked: Option<HartStep>,
 ) -> Result<Checked, RunError>
-    requires within { harts ≤ MOST_HARTS }
-    requires few { length file.now.harts.items ≤ MOST_HARTS }
-    ensures { IfOk result (λ c. IsFound (opening_guest image file.now.input.items harts) (as_recorded file.now).harts (as_recorded file.now).order asked c.finding c) }
+    requires { length file.now.harts.items ≤ MOST_HARTS }
+    ensures { IfOk result (λ c. IsFound (opening_guest image file.now.input.items (length file.now.harts.items))
+        (as_recorded file.now) asked c.finding c) }
 {
-    let mut follower = Follower::open(alloc, &image, &file.input, &file.harts)?;
-    match follower.follow(&file.calls) {
+    let mut follower = Follower::open(alloc, &image, &file.input, &file.harts, asked)?;
+    let followed = follower.follow(&file.calls);
+    let way = follower.into_way();
+    let opening = Trace::new(alloc, image.into_pieces());
+    match followed {
         Ok(()) => {
-            // The checker follows the script anew: what was followed here is as large, and is let go.
-            let script = follower.into_script();
-            judge(alloc, file, image, script, harts, asked)
+            way.execution.is_small();
+            judge(alloc, file, way, opening)
         }
-        Err(halt) => halted(alloc, image, follower, halt),
+        Err(halt) => halted(alloc, way, opening, halt),
     }
 }
 
 /// What is found of a file that couldn't be followed to its end.
-fn halted(
-    alloc: Global,
-    image: Image,
-    follower: Follower<'_>,
-    halt: Halt,
-) -> Result<Checked, RunError>
-    ensures { IfOk result (λ c. (v : Verdict) → c.finding ≢ Judged v) }
+fn halted(alloc: Global, way: Way, opening: Trace, halt: Halt) -> Result<Checked, RunError>
+    ensures { IfOk result (λ k. (x : FaultFound) × (halt ≡ halts.Fault x) × (k.finding ≡ findings.Fault x)) }
 {
-    let Halt::Fault(fault) = halt else {
-        return Err(RunError::OutOfMemory);
-    };
-    let (execution, script) = follower.into_parts();
-    Ok(Checked {
+    match halt {
+        Halt::Fault(fault) => Ok(refused(alloc, way, opening, fault)),
+        Halt::OutOfMemory => {
+            drop(way);
+            drop(opening);
+            Err(RunError::OutOfMemory)
+        }
+    }
+}
+
+/// What is found of a file in which there is this fault.
+fn refused(alloc: Global, way: Way, opening: Trace, fault: Fault) -> Checked
+    ensures { result.finding ≡ findings.Fault fault }
+{
+    let Way {
+        execution,
+        script,
+        ..
+    } = way;
+    Checked {
         finding: Finding::Fault(fault),
         execution,
         script,
         order: Order(Vec::new(alloc)),
-        opening: Trace::new(alloc, image.into_pieces()),
+        opening,
         sights: Sights {
             pcs: Vec::new(alloc),
             before: None,
         },
-    })
+    }
 }
 
-/// Follows the script anew, and judges what it leads to.
-fn judge(
-    alloc: Global,
-    file: &ExecutionFile,
-    image: Image,
-    script: Vec<ScriptedStep>,
-    harts: u32,
-    asked: Option<HartStep>,
-) -> Result<Checked, RunError>
-    requires { harts ≤ MOST_HARTS }
-    ensures { IfOk result (λ c. IsFound (opening_guest image file.now.input.items harts) (as_recorded file.now).harts (as_recorded file.now).order asked c.finding c) }
+/// What is found of an execution whose harts do what the file says.
+fn judge(alloc: Global, file: &ExecutionFile, way: Way, opening: Trace) -> Result<Checked, RunError>
+    requires formed { All HasForm way.execution.standing.events }
+    requires along { length way.execution.standing.instructions ≡ length way.execution.standing.events }
+    ensures hands_on { IfOk result (HandsOn way opening.opening) }
+    ensures verdict { IfOk result (λ k. (v : Verdict) → k.finding ≡ findings.Judged v →
+        Judges v (opening_at opening.opening) way.execution.standing k.order.0.items) }
+    ensures names { IfOk result (λ k. (v : Verdict) → k.finding ≡ findings.Judged v →
+        AreNames (as_recorded file.now).order way.execution.standing.events k.order.0.items) }
+    ensures none { IfOk result (λ k. (fault : FaultFound) → k.finding ≡ findings.Fault fault →
+        IsUnnamed (as_recorded file.now).order way.execution.standing.events fault) }
 {
-    let mut execution = open_execution(alloc, &image, &file.input, harts)?;
-    let opening = Trace::new(alloc, image.into_pieces());
-    let found = find(alloc, file, &mut execution, &script, &opening, asked)?;
-    let Found {
-        finding,
-        order,
-        sights,
-    } = found;
+    let (finding, order) = judge_named(alloc, file, &way.execution, &opening)?;
+    let Way {
+        execution,
+        script,
+        notes,
+        ..
+    } = way;
+    let Notes { sights, .. } = notes;
     Ok(Checked {
         finding,
         execution,
@@ -181,53 +188,8 @@ fn judge(
     })
 }
 
-/// What is found of a script.
-#[derive(Drop)]
-struct Found {
-    finding: Finding,
-    /// The order that the file's turns name.
-    order: Order,
-    sights: Sights,
-}
-
-/// What is found of a script, where nothing is done yet.
-fn find(
-    alloc: Global,
-    file: &ExecutionFile,
-    execution: &mut Execution,
-    script: &[ScriptedStep],
-    opening: &Trace,
-    asked: Option<HartStep>,
-) -> Result<Found, OutOfMemory>
-    requires no_instructions { execution.old.standing.instructions ≡ [] }
-    requires no_events { execution.old.standing.events ≡ [] }
-    ensures verdict { IfOk result (λ f. (v : Verdict) → f.finding ≡ Judged v → IsVerdict v execution.old.memory
-        (opening_at opening.now.opening) script.now f.order.0.items execution.old.standing execution.new.standing) }
-    ensures as_said { IfOk result (λ f. (v : Verdict) → f.finding ≡ Judged v → IsAsSaid (as_recorded file.now).harts
-        (as_recorded file.now).order execution.new.standing f.order.0.items) }
-    ensures sights { IfOk result (λ f. AreSights execution.old.memory execution.old.standing execution.new.standing asked f.sights) }
-{
-    execution.is_small();
-    let (broken, sights) = follow_seen(alloc, execution, script, asked)?;
-    match broken {
-        Some(_) => Ok(Found {
-            finding: Finding::Fault(otherwise()),
-            order: Order(Vec::new(alloc)),
-            sights,
-        }),
-        None => {
-            let (finding, order) = judge_said(alloc, file, execution, opening)?;
-            Ok(Found {
-                finding,
-                order,
-                sights,
-            })
-        }
-    }
-}
-
 /// What is found of an execution, and the order that the file's turns name.
-fn judge_said(
+fn judge_named(
     alloc: Global,
     file: &ExecutionFile,
     execution: &Execution,
@@ -235,12 +197,14 @@ fn judge_said(
 ) -> Result<(Finding, Order), OutOfMemory>
     requires formed { All HasForm execution.now.standing.events }
     requires along { length execution.now.standing.instructions ≡ length execution.now.standing.events }
-    ensures verdict { IfOk result (λ f. (v : Verdict) → f.0 ≡ Judged v →
+    ensures verdict { IfOk result (λ f. (v : Verdict) → f.0 ≡ findings.Judged v →
         Judges v (opening_at opening.now.opening) execution.now.standing f.1.0.items) }
-    ensures as_said { IfOk result (λ f. (v : Verdict) → f.0 ≡ Judged v → IsAsSaid (as_recorded file.now).harts
-        (as_recorded file.now).order execution.now.standing f.1.0.items) }
+    ensures names { IfOk result (λ f. (v : Verdict) → f.0 ≡ findings.Judged v →
+        AreNames (as_recorded file.now).order execution.now.standing.events f.1.0.items) }
+    ensures none { IfOk result (λ f. (fault : FaultFound) → f.0 ≡ findings.Fault fault →
+        IsUnnamed (as_recorded file.now).order execution.now.standing.events fault) }
 {
-    match order_said(alloc, file, execution)? {
+    match order_named_by(alloc, file, execution)? {
         Said::Order(order) => {
             let verdict = execution_checker::judge(alloc, execution, opening, &order)?;
             Ok((Finding::Judged(verdict), order))

@@ -1,3 +1,6 @@
+ghost use Rattle.std.specs.Prelude.{◌≡◌};
+ghost use Rattle.execution_scripts.specs.declared.fault.Halt.TheVariants as halts;
+
 use pages::OutOfMemory;
 use std::alloc::{AllocError, AllocFailed};
 use thiserror::Error;
@@ -79,18 +82,24 @@ pub(crate) enum Halt {
 }
 
 impl From<OutOfMemory> for Halt {
+    ghost from_gives = { λ _ halt. halt ≡ halts.OutOfMemory };
+
     fn from(_error: OutOfMemory) -> Halt {
         Halt::OutOfMemory
     }
 }
 
 impl From<AllocError> for Halt {
+    ghost from_gives = { λ _ halt. halt ≡ halts.OutOfMemory };
+
     fn from(_error: AllocError) -> Halt {
         Halt::OutOfMemory
     }
 }
 
 impl<T: Drop> From<AllocFailed<T>> for Halt {
+    ghost from_gives = { λ _ halt. halt ≡ halts.OutOfMemory };
+
     fn from(_error: AllocFailed<T>) -> Halt {
         Halt::OutOfMemory
     }

@@ -1,44 +1,38 @@
-//! The script of a file: each hart's steps, with the numbers that its line has.
+//! The steps of a file: each hart's, with the numbers that its line has, in the order that the calls say.
 
-ghost use Rattle.std.specs.Prelude.{◌≡◌, ◌≤◌, None, OnOk, length};
+ghost use Rattle.std.specs.Prelude.{◌≡◌, ◌≢◌, ◌-◌, ◌+◌, ◌%◌, ◌^◌, ◌<◌, ◌≤◌, ℕ, List, IfErr, IfOk, None, OnOk, Some, length, map, slice_get, slice_index, slice_set};
+ghost use Rattle.guest_rounds.specs.Guests.{opening_guest};
+ghost use Rattle.execution_file.specs.Recorded.{Turn as TurnSaid};
+ghost use Rattle.execution_file.specs.Views.{hart_view, turn_view};
+ghost use Rattle.execution_scripts.specs.declared.fault.Halt.TheVariants as halts;
+ghost use Rattle.execution_scripts.specs.Findings.{start_of};
+ghost use Rattle.execution_scripts.specs.Following.{AreCalled, AreFollowed, Calls, Ends, HaveEnded, IsEnd, IsRound, Reads, StopsWith, calls, done_by, line_of, round_from, stop_by};
+ghost use Rattle.execution_scripts.specs.Misfits.{HasNoRound, IsEndMisfit, IsFaultAfter, IsFaultAt, IsGoMisfit, IsCallMisfit, IsStepMisfit, IsUnfollowed, StopsInCall, StopsInEnd};
+ghost use Rattle.execution_scripts.specs.Courses.{AreWithin, Course, HasRun, IsOn, OnFault, Took};
 
 use crate::calls::{Taken, call_number, taken_at};
+use crate::ending::{end_misfit, has_stray_value};
 use crate::fault::{Fault, Halt, Misfit};
-use crate::opening::open_execution;
+use crate::misreading::{misfit_for, misread};
+use crate::way::Way;
 use elf_loader::Image;
-use execution_checker::{Execution, ScriptedStep};
+use execution_checker::ScriptedStep;
 use execution_file::{HartDeeds, Turn, number_shown};
+use execution_views::HartStep;
 use hart_step::Stop;
 use pages::OutOfMemory;
 use round_schedule::{Event, MOST_HARTS};
 use std::alloc::Global;
 
-/// How far a hart is.
-#[derive(Clone, Copy)]
-struct Course {
-    /// How many instructions it has done.
-    done: u64,
-    /// How many numbers of its line it has read.
-    used: usize,
-}
-
 /// Harts on their way through an execution.
 #[derive(Drop)]
 pub(crate) struct Follower<'a> {
-    execution: Execution,
+    pub(crate) way: Way,
+    /// What the harts are said to do.
     parts: &'a [HartDeeds],
-    courses: Vec<Course>,
+    /// How many numbers of its line each hart has read.
+    used: Vec<usize>,
     round: u32,
-    script: Vec<ScriptedStep>,
-}
-
-/// Why a hart that said one number, or none, didn't read it.
-fn misfit_of(read: u64, said: Option<u64>) -> Option<Misfit> {
-    match said {
-        None => Some(Misfit::NoNumber),
-        Some(said) if said != read => Some(Misfit::OtherNumber { read, said }),
-        Some(_) => None,
-    }
 }
 
 impl<'a> Follower<'a> {
@@ -48,65 +42,74 @@ impl<'a> Follower<'a> {
         image: &Image,
         input: &[u8],
         parts: &'a [HartDeeds],
+        asked: Option<HartStep>,
     ) -> Result<Follower<'a>, OutOfMemory>
         requires { length parts.now ≤ MOST_HARTS }
+        ensures on { IfOk result (λ f. let g = opening_guest image.now input.now (length parts.now) in
+            IsOn (record { image = g.shared.memory; start = start_of g; lines = map hart_view parts.now; asked = asked }) 0 f) }
+        ensures standing { IfOk result (λ f. f.way.execution.standing ≡ start_of (opening_guest image.now input.now (length parts.now))) }
     {
-        let courses = vec![in alloc; Course { done: 0, used: 0 }; parts.len()]?;
-        let execution = open_execution(alloc, image, input, parts.len() as u32)?;
+        let used = vec![in alloc; 0usize; parts.len()]?;
+        let way = Way::open(alloc, image, input, parts.len() as u32, asked)?;
         Ok(Follower {
-            execution,
+            way,
             parts,
-            courses,
+            used,
             round: 0,
-            script: Vec::new(alloc),
-        })
-    }
-
-    /// The fault of a hart where it is.
-    fn fault(&self, hart: u8, misfit: Misfit) -> Halt {
-        Halt::Fault(Fault {
-            hart,
-            step: self.done(hart),
-            misfit,
         })
     }
 
     /// The number of the next read of a hart.
-    fn said(&self, hart: u8) -> Option<u64> {
-        let course = self.courses.get(usize::from(hart))?;
+    fn said(&self, hart: u8) -> Option<u64>
+        ensures { result ≡ slice_get (line_of (map hart_view self.now.parts.now) hart).reads (slice_index self.now.used.items hart) }
+    {
+        let used = match self.used.get(usize::from(hart)) {
+            Some(used) => *used,
+            None => 0,
+        };
         let part = self.parts.get(usize::from(hart))?;
-        part.reads.get(course.used).copied()
+        part.reads.get(used).copied()
     }
 
-    /// Notes what a hart did, and whether it read a number.
-    fn note(&mut self, hart: u8, reads: bool) {
-        if let Some(course) = self.courses.get_mut(usize::from(hart)) {
-            course.done = course.done.wrapping_add(1);
-            if reads {
-                course.used = course.used.wrapping_add(1);
-            }
+    /// How many instructions a hart has done.
+    pub(crate) fn done(&self, hart: u8) -> u64
+        ensures { result ≡ done_by self.now.way.execution.standing hart }
+    {
+        match self.way.execution.harts().get(usize::from(hart)) {
+            Some(hart) => hart.done,
+            None => 0,
         }
     }
 
-    /// The next step of a hart.
-    pub(crate) fn step(&mut self, hart: u8) -> Result<Taken, Halt> {
-        let index = self.execution.events().len();
-        let call = call_number(&self.execution, hart);
-        let step = self.next_step(hart);
-        match self.take(step, index)? {
-            Some(event) => {
-                self.read(step, &event)?;
-                Ok(taken_at(&self.execution, index, call))
-            }
-            None => {
-                self.keep(step, None)?;
-                Ok(Taken::Stopped)
-            }
+    /// How many instructions a hart has still to do.
+    fn left(&self, hart: u8) -> u64
+        ensures fits { (line_of (map hart_view self.now.parts.now) hart).steps < 2 ^ 64 }
+        ensures left { result ≡ (line_of (map hart_view self.now.parts.now) hart).steps - done_by self.now.way.execution.standing hart }
+    {
+        self.steps(hart).saturating_sub(self.done(hart))
+    }
+
+    /// How many instructions a hart is said to do.
+    fn steps(&self, hart: u8) -> u64
+        ensures { result ≡ (line_of (map hart_view self.now.parts.now) hart).steps }
+    {
+        match self.parts.get(usize::from(hart)) {
+            Some(part) => part.steps,
+            None => 0,
         }
+    }
+
+    /// Sets the number of the round from here on.
+    pub(crate) fn set_round(&mut self, round: u32) {
+        self.round = round;
     }
 
     /// The next step of a hart, on the number that its line has.
-    fn next_step(&self, hart: u8) -> ScriptedStep {
+    fn next_step(&self, hart: u8) -> ScriptedStep
+        ensures hart { result.hart ≡ hart }
+        ensures round { result.round ≡ self.now.round }
+        ensures number { result.number ≡ slice_get (line_of (map hart_view self.now.parts.now) hart).reads (slice_index self.now.used.items hart) }
+    {
         let number = self.said(hart);
         ScriptedStep {
             hart,
@@ -116,149 +119,213 @@ impl<'a> Follower<'a> {
         }
     }
 
-    /// Takes a step. The event of the instruction, which has this index in the list; none where the hart stopped.
-    fn take(&mut self, step: ScriptedStep, index: usize) -> Result<Option<Event>, Halt> {
-        match self.execution.take_step(step)? {
-            Some(_) => Err(self.fault(step.hart, Misfit::NoStep)),
-            None => Ok(self.execution.events().get(index).copied()),
+    /// The next step of a hart.
+    pub(crate) fn step(&mut self, hart: u8) -> Result<Taken, Halt>
+        ensures took { IfOk result (λ taken. (c : Course) (n : ℕ) → IsOn c n self.old → hart < length c.lines → IsOn c n self.new ×
+            Took taken c.image (line_of c.lines hart) n hart self.old.way.execution.standing self.new.way.execution.standing) }
+        ensures misfit { IfErr result (λ halt. OnFault halt (λ f. (c : Course) (n : ℕ) → IsOn c n self.old → hart < length c.lines →
+            IsFaultAt IsStepMisfit c.image (line_of c.lines hart) n hart self.old.way.execution.standing f)) }
+    {
+        let done = self.done(hart);
+        let call = call_number(&self.way.execution, hart);
+        let index = self.way.execution.instructions().len();
+        let events = self.way.execution.events().len();
+        let step = self.next_step(hart);
+        if let Some(fault) = self.way.take(step)? {
+            return Err(fault_at(hart, done, misfit_for(fault, step.number)));
         }
-    }
-
-    /// Compares what a step read with what it was to read, and keeps the step.
-    fn read(&mut self, step: ScriptedStep, event: &Event) -> Result<(), Halt> {
-        let read = number_shown(&event.access);
-        if let Some(read) = read {
-            if let Some(misfit) = misfit_of(read, step.number) {
-                return Err(self.fault(step.hart, misfit));
+        match self.event_at(events) {
+            Some(event) => {
+                let read = number_shown(&event.access);
+                if let Some(misfit) = misread(read, step.number) {
+                    return Err(fault_at(hart, done, misfit));
+                }
+                self.count(hart, read);
+                Ok(taken_at(&self.way.execution, index, call))
             }
-        }
-        self.keep(step, read)?;
-        self.note(step.hart, read.is_some());
-        Ok(())
-    }
-
-    /// Keeps a step that read this number.
-    fn keep(&mut self, step: ScriptedStep, number: Option<u64>) -> Result<(), OutOfMemory> {
-        self.script.push(ScriptedStep { number, ..step })?;
-        Ok(())
-    }
-
-    /// Sets the number of the round from here on.
-    pub(crate) fn set_round(&mut self, round: u32) {
-        self.round = round;
-    }
-
-    /// How many instructions a hart has done.
-    pub(crate) fn done(&self, hart: u8) -> u64 {
-        match self.courses.get(usize::from(hart)) {
-            Some(course) => course.done,
-            None => 0,
+            None => Ok(Taken::Stopped),
         }
     }
 
-    /// How many instructions a hart has still to do.
-    fn left(&self, hart: u8) -> u64 {
-        match self.parts.get(usize::from(hart)) {
-            Some(part) => part.steps.saturating_sub(self.done(hart)),
-            None => 0,
+    /// The event at an index.
+    fn event_at(&self, index: usize) -> Option<Event>
+        ensures { result ≡ slice_get self.now.way.execution.standing.events index }
+    {
+        self.way.execution.events().get(index).copied()
+    }
+
+    /// Counts a number that a hart read, if it read one.
+    fn count(&mut self, hart: u8, read: Option<u64>)
+        ensures way { self.new.way ≡ self.old.way }
+        ensures parts { self.new.parts.now ≡ self.old.parts.now }
+        ensures round { self.new.round ≡ self.old.round }
+        ensures none { read ≡ None → self.new.used.items ≡ self.old.used.items }
+        ensures one { (v : ℕ) → read ≡ Some v → self.new.used.items ≡
+            slice_set self.old.used.items hart ((slice_index self.old.used.items hart + 1) % 2 ^ 64) }
+    {
+        if read.is_none() {
+            return;
+        }
+        if let Some(used) = self.used.get_mut(usize::from(hart)) {
+            *used = used.wrapping_add(1);
+        }
+    }
+
+    /// The next instruction of a hart: whether it is a call.
+    fn go(&mut self, hart: u8) -> Result<bool, Halt>
+        ensures went { IfOk result (λ is_call. (c : Course) (n : ℕ) → IsOn c n self.old → hart < length c.lines → IsOn c n self.new ×
+            ((s : Reads c.image (line_of c.lines hart) n hart self.old.way.execution.standing self.new.way.execution.standing) × (calls s ≡ is_call))) }
+        ensures misfit { IfErr result (λ halt. OnFault halt (λ f. (c : Course) (n : ℕ) → IsOn c n self.old → hart < length c.lines →
+            IsFaultAt IsGoMisfit c.image (line_of c.lines hart) n hart self.old.way.execution.standing f)) }
+    {
+        let done = self.done(hart);
+        match self.step(hart)? {
+            Taken::Done => Ok(false),
+            Taken::Called { .. } => Ok(true),
+            Taken::Stopped => Err(fault_at(hart, done, Misfit::Stops)),
         }
     }
 
     /// Enters the round that answers a call.
-    fn enter(&mut self, turn: &Turn) -> Result<(), Halt> {
-        if let Some(round) = turn.number {
-            if round > u64::from(u32::MAX) || round < u64::from(self.round) {
-                return Err(self.fault(turn.hart, Misfit::NoRound));
-            }
-            self.round = round as u32;
+    fn enter(&mut self, turn: &Turn) -> Result<(), Halt>
+        ensures way { OnOk result (self.new.way ≡ self.old.way) }
+        ensures round { OnOk result ((c : Course) (n : ℕ) → IsOn c n self.old →
+            IsOn c (round_from n turn.now.number) self.new × IsRound n turn.now.number) }
+        ensures misfit { IfErr result (λ halt. OnFault halt (λ f. (c : Course) (n : ℕ) → IsOn c n self.old →
+            HasNoRound n (turn_view turn.now) self.old.way.execution.standing f)) }
+    {
+        let Some(round) = turn.number else {
+            return Ok(());
+        };
+        if round > u64::from(u32::MAX) || round < u64::from(self.round) {
+            return Err(fault_at(turn.hart, self.done(turn.hart), Misfit::NoRound));
         }
+        self.round = round as u32;
         Ok(())
     }
 
     /// A hart's steps up to its next call.
-    fn call(&mut self, turn: &Turn) -> Result<(), Halt> {
-        self.enter(turn)?;
-        for _ in 0..self.left(turn.hart) {
-            match self.step(turn.hart)? {
-                Taken::Done => {}
-                Taken::Called { .. } => return Ok(()),
-                Taken::Stopped => return Err(self.fault(turn.hart, Misfit::Stops)),
+    fn call(&mut self, hart: u8) -> Result<(), Halt>
+        ensures called { OnOk result ((c : Course) (n : ℕ) → IsOn c n self.old → AreWithin c.lines self.old.way.execution.standing →
+            IsOn c n self.new × AreWithin c.lines self.new.way.execution.standing ×
+            Calls c.image (line_of c.lines hart) n hart self.old.way.execution.standing self.new.way.execution.standing) }
+        ensures misfit { IfErr result (λ halt. OnFault halt (λ f. (c : Course) (n : ℕ) → IsOn c n self.old →
+            AreWithin c.lines self.old.way.execution.standing →
+            IsFaultAfter IsCallMisfit c.image (line_of c.lines hart) n hart 0 self.old.way.execution.standing f)) }
+    {
+        for _step in 0..self.left(hart) {
+            let is_call = self.go(hart)?;
+            if is_call {
+                return Ok(());
             }
         }
-        Err(self.fault(turn.hart, Misfit::NoCall))
-    }
-
-    /// A hart's other steps, and its stop.
-    fn finish(&mut self, hart: u8, part: &HartDeeds) -> Result<(), Halt>
-        ensures runs_on { OnOk result (part.now.code ≡ 0 → part.now.value ≡ None) }
-    {
-        if part.code == 0 && part.value.is_some() {
-            return Err(self.fault(hart, Misfit::RunsOnWithValue));
-        }
-        self.run_on(hart)?;
-        if part.code != 0 {
-            self.stop(hart, part)?;
-        }
-        match self.said(hart) {
-            Some(_) => Err(self.fault(hart, Misfit::NumbersLeft)),
-            None => Ok(()),
-        }
+        Err(fault_at(hart, self.done(hart), Misfit::NoCall))
     }
 
     /// A hart's other instructions.
-    fn run_on(&mut self, hart: u8) -> Result<(), Halt> {
-        for _ in 0..self.left(hart) {
-            if let Taken::Stopped = self.step(hart)? {
-                return Err(self.fault(hart, Misfit::Stops));
-            }
+    fn run_on(&mut self, hart: u8) -> Result<(), Halt>
+        ensures ran { OnOk result ((c : Course) (n : ℕ) → IsOn c n self.old → AreWithin c.lines self.old.way.execution.standing →
+            IsOn c n self.new × AreWithin c.lines self.new.way.execution.standing ×
+            HasRun c.image (line_of c.lines hart) n hart self.old.way.execution.standing self.new.way.execution.standing) }
+        ensures misfit { IfErr result (λ halt. OnFault halt (λ f. (c : Course) (n : ℕ) → IsOn c n self.old →
+            AreWithin c.lines self.old.way.execution.standing →
+            (k : ℕ) × IsFaultAfter IsEndMisfit c.image (line_of c.lines hart) n hart k self.old.way.execution.standing f)) }
+    {
+        for _step in 0..self.left(hart) {
+            self.go(hart)?;
         }
         Ok(())
     }
 
     /// A hart's stop, as it is said.
-    fn stop(&mut self, hart: u8, part: &HartDeeds) -> Result<(), Halt> {
-        let step = self.done(hart);
-        match self.step(hart)? {
-            Taken::Stopped => self.compare_stop(hart, part),
-            _ => {
-                let misfit = Misfit::RunsOn;
-                Err(Halt::Fault(Fault { hart, step, misfit }))
-            }
+    fn stop(&mut self, hart: u8, part: &HartDeeds) -> Result<(), Halt>
+        ensures stops { OnOk result ((c : Course) (n : ℕ) → IsOn c n self.old → hart < length c.lines → IsOn c n self.new ×
+            StopsWith c.image n hart part.now.code part.now.value self.old.way.execution.standing self.new.way.execution.standing) }
+        ensures misfit { IfErr result (λ halt. OnFault halt (λ f. (c : Course) (n : ℕ) → IsOn c n self.old → hart < length c.lines →
+            hart_view part.now ≡ line_of c.lines hart → done_by self.old.way.execution.standing hart ≡ part.now.steps → part.now.code ≢ 0 →
+            IsFaultAt IsEndMisfit c.image (line_of c.lines hart) n hart self.old.way.execution.standing f)) }
+    {
+        let done = self.done(hart);
+        let taken = self.step(hart)?;
+        match end_misfit(taken, self.stop_of(hart), part) {
+            Some(misfit) => Err(fault_at(hart, done, misfit)),
+            None => Ok(()),
         }
     }
 
-    /// Refuses a hart that stopped otherwise than it is said.
-    fn compare_stop(&self, hart: u8, part: &HartDeeds) -> Result<(), Halt> {
-        match self.stop_of(hart) {
-            Some(stop) => {
-                let (code, value) = (stop.code, stop.value);
-                let of_exit = if code == 1 { Some(value) } else { None };
-                if code == part.code && of_exit == part.value {
-                    return Ok(());
-                }
-                let misfit = match of_exit {
-                    Some(value) => Misfit::OtherExit { value },
-                    None => Misfit::OtherStop { code },
-                };
-                Err(self.fault(hart, misfit))
-            }
-            None => Err(self.fault(hart, Misfit::RunsOn)),
+    /// The end of a hart that has done all its instructions: it runs on, or stops as is said.
+    fn end(&mut self, hart: u8, part: &HartDeeds) -> Result<(), Halt>
+        ensures ended { OnOk result ((c : Course) (n : ℕ) → IsOn c n self.old → AreWithin c.lines self.old.way.execution.standing →
+            hart < length c.lines → hart_view part.now ≡ line_of c.lines hart → (part.now.code ≡ 0 → part.now.value ≡ None) →
+            IsOn c n self.new × AreWithin c.lines self.new.way.execution.standing ×
+            IsEnd c.image (line_of c.lines hart) n hart self.old.way.execution.standing self.new.way.execution.standing) }
+        ensures misfit { IfErr result (λ halt. OnFault halt (λ f. (c : Course) (n : ℕ) → IsOn c n self.old → hart < length c.lines →
+            hart_view part.now ≡ line_of c.lines hart → done_by self.old.way.execution.standing hart ≡ part.now.steps →
+            IsFaultAt IsEndMisfit c.image (line_of c.lines hart) n hart self.old.way.execution.standing f)) }
+    {
+        if part.code == 0 {
+            return Ok(());
         }
+        self.stop(hart, part)
     }
 
     /// How a hart stopped; none where it runs.
-    fn stop_of(&self, hart: u8) -> Option<Stop> {
-        match self.execution.harts().get(usize::from(hart)) {
+    fn stop_of(&self, hart: u8) -> Option<Stop>
+        ensures { result ≡ stop_by self.now.way.execution.standing hart }
+    {
+        match self.way.execution.harts().get(usize::from(hart)) {
             Some(hart) => hart.stop,
             None => None,
         }
     }
 
-    /// All that the file says: first the calls in their order, and then the harts, one after another.
-    pub(crate) fn follow(&mut self, calls: &[Turn]) -> Result<(), Halt> {
-        for turn in calls {
-            self.call(turn)?;
+    /// A hart's other steps, and its stop.
+    fn finish(&mut self, hart: u8, part: &HartDeeds) -> Result<(), Halt>
+        ensures ended { OnOk result ((c : Course) (n : ℕ) → IsOn c n self.old → AreWithin c.lines self.old.way.execution.standing →
+            hart < length c.lines → hart_view part.now ≡ line_of c.lines hart →
+            IsOn c n self.new × AreWithin c.lines self.new.way.execution.standing ×
+            Ends c.image (line_of c.lines hart) n hart self.old.way.execution.standing self.new.way.execution.standing) }
+        ensures misfit { IfErr result (λ halt. OnFault halt (λ f. (c : Course) (n : ℕ) → IsOn c n self.old →
+            AreWithin c.lines self.old.way.execution.standing → hart < length c.lines → hart_view part.now ≡ line_of c.lines hart →
+            (k : ℕ) × IsFaultAfter IsEndMisfit c.image (line_of c.lines hart) n hart k self.old.way.execution.standing f)) }
+    {
+        if has_stray_value(part) {
+            return Err(fault_at(hart, self.done(hart), Misfit::RunsOnWithValue));
         }
+        self.run_on(hart)?;
+        let done = self.done(hart);
+        self.end(hart, part)?;
+        match self.said(hart) {
+            Some(_) => Err(fault_at(hart, done, Misfit::NumbersLeft)),
+            None => Ok(()),
+        }
+    }
+
+    /// The calls of a file, in their order.
+    fn follow_calls(&mut self, calls: &[Turn]) -> Result<(), Halt>
+        ensures called { OnOk result ((c : Course) → IsOn c 0 self.old → AreWithin c.lines self.old.way.execution.standing →
+            self.old.way.execution.standing ≡ c.start → (n : ℕ) × IsOn c n self.new × AreWithin c.lines self.new.way.execution.standing ×
+            AreCalled c.image c.lines c.start (map turn_view calls.now) n self.new.way.execution.standing) }
+        ensures misfit { IfErr result (λ halt. OnFault halt (λ f. (c : Course) → IsOn c 0 self.old →
+            AreWithin c.lines self.old.way.execution.standing → self.old.way.execution.standing ≡ c.start →
+            StopsInCall c.image c.lines (map turn_view calls.now) c.start f)) }
+    {
+        for turn in calls {
+            self.enter(turn)?;
+            self.call(turn.hart)?;
+        }
+        Ok(())
+    }
+
+    /// The ends of the harts, one after another.
+    fn follow_ends(&mut self) -> Result<(), Halt>
+        ensures ended { OnOk result ((c : Course) (n : ℕ) → IsOn c n self.old → AreWithin c.lines self.old.way.execution.standing →
+            IsOn c n self.new × HaveEnded c.image c.lines n self.old.way.execution.standing (length c.lines) self.new.way.execution.standing) }
+        ensures misfit { IfErr result (λ halt. OnFault halt (λ f. (c : Course) (n : ℕ) (turns : List TurnSaid) → IsOn c n self.old →
+            AreWithin c.lines self.old.way.execution.standing →
+            AreCalled c.image c.lines c.start turns n self.old.way.execution.standing →
+            StopsInEnd c.image c.lines turns c.start f)) }
+    {
         let parts = self.parts;
         let mut hart = 0u8;
         for part in parts {
@@ -268,19 +335,31 @@ impl<'a> Follower<'a> {
         Ok(())
     }
 
-    /// The script of what was followed.
-    pub(crate) fn into_script(self) -> Vec<ScriptedStep> {
-        let Follower { script, .. } = self;
-        script
+    /// All that the file says: first the calls in their order, and then the harts, one after another.
+    pub(crate) fn follow(&mut self, calls: &[Turn]) -> Result<(), Halt>
+        ensures followed { OnOk result ((c : Course) → IsOn c 0 self.old → AreWithin c.lines self.old.way.execution.standing →
+            self.old.way.execution.standing ≡ c.start → (n : ℕ) × IsOn c n self.new ×
+            AreFollowed c.image c.lines (map turn_view calls.now) c.start self.new.way.execution.standing) }
+        ensures misfit { IfErr result (λ halt. OnFault halt (λ f. (c : Course) → IsOn c 0 self.old →
+            AreWithin c.lines self.old.way.execution.standing → self.old.way.execution.standing ≡ c.start →
+            IsUnfollowed c.image c.lines (map turn_view calls.now) c.start f)) }
+    {
+        self.follow_calls(calls)?;
+        self.follow_ends()
     }
 
-    /// The execution that was followed, and its script.
-    pub(crate) fn into_parts(self) -> (Execution, Vec<ScriptedStep>) {
-        let Follower {
-            execution,
-            script,
-            ..
-        } = self;
-        (execution, script)
+    /// The execution that was followed.
+    pub(crate) fn into_way(self) -> Way
+        ensures { result ≡ self.entry.way }
+    {
+        let Follower { way, .. } = self;
+        way
     }
+}
+
+/// What a hart does not as it is said after so many instructions.
+fn fault_at(hart: u8, step: u64, misfit: Misfit) -> Halt
+    ensures { result ≡ halts.Fault (record { hart = hart; step = step; misfit = misfit }) }
+{
+    Halt::Fault(Fault { hart, step, misfit })
 }

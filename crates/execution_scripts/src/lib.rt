@@ -3,13 +3,16 @@
 
 mod calls;
 mod checking;
+mod ending;
 mod fault;
 mod following;
+mod misreading;
 mod opening;
 mod paces;
 mod running;
 mod said;
 mod scripted;
+mod way;
 
 pub use checking::{Checked, Finding, check_file};
 pub use execution_checker::Verdict;

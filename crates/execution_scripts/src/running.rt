@@ -215,7 +215,7 @@ fn calls_of(
     if parts.len() > 64 {
         return Ok(Vec::new(alloc));
     }
-    let mut follower = Follower::open(alloc, image, input, parts)?;
+    let mut follower = Follower::open(alloc, image, input, parts, None)?;
     let mut calls = Vec::new(alloc);
     let added = add_calls(&mut calls, &mut follower, parts.len(), rounds, done);
     drop(follower);

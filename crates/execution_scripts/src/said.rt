@@ -1,13 +1,16 @@
 //! What a file says of an execution, beside what its harts did.
 
-ghost use Rattle.std.specs.Prelude.{◌≡◌, ◌≢◌, IfOk, true};
+ghost use Rattle.std.specs.Prelude.{◌≡◌, ◌≢◌, IfOk, List, slice_get, true};
 ghost use Rattle.execution_file.specs.Views.{as_recorded};
 ghost use Rattle.execution_file.specs.Deeds.{deeds};
-ghost use Rattle.execution_scripts.specs.Findings.{IsSaid};
+ghost use Rattle.execution_file.specs.Turns.{NamesNone};
+ghost use Rattle.execution_scripts.specs.Findings.{IsNamedBy, IsSaid};
+ghost use Rattle.execution_scripts.specs.Misfits.{IsUnnamed};
+ghost use Rattle.round_schedule.specs.declared.event.Event.{Event};
 
 use crate::fault::{Fault, Misfit};
 use execution_checker::Execution;
-use execution_file::{ExecutionFile, Named, are_said, deeds, order_named};
+use execution_file::{ExecutionFile, Named, Turn, are_said, deeds, order_named};
 use memory_order::Order;
 use pages::OutOfMemory;
 use std::alloc::Global;
@@ -37,6 +40,17 @@ pub fn order_said(
     if !are_said(&file.harts, &did) {
         return Ok(Said::Fault(otherwise()));
     }
+    order_named_by(alloc, file, execution)
+}
+
+/// Which order of the memory operations of an execution a file's turns name; or the first turn that names none.
+pub(crate) fn order_named_by(
+    alloc: Global,
+    file: &ExecutionFile,
+    execution: &Execution,
+) -> Result<Said, OutOfMemory>
+    ensures { IfOk result (IsNamedBy (as_recorded file.now).order execution.now.standing.events) }
+{
     match order_named(alloc, execution.events(), &file.order)? {
         Named::Order(indexes) => Ok(Said::Order(Order(indexes))),
         Named::NoOperation(index) => Ok(Said::Fault(unnamed(file, index))),
@@ -44,7 +58,7 @@ pub fn order_said(
 }
 
 /// A hart did otherwise than is said.
-pub(crate) fn otherwise() -> Fault
+fn otherwise() -> Fault
     ensures { result.misfit ≡ Misfit.Otherwise }
 {
     Fault {
@@ -56,15 +70,25 @@ pub(crate) fn otherwise() -> Fault
 
 /// The turn at an index names no operation.
 fn unnamed(file: &ExecutionFile, index: usize) -> Fault
-    ensures { result.misfit ≡ Misfit.NoOperation }
+    ensures { (t : List Event) → NamesNone (as_recorded file.now).order t index → IsUnnamed (as_recorded file.now).order t result }
 {
-    let (hart, step) = match file.order.get(index) {
-        Some(turn) => (turn.hart, turn.number.unwrap_or(0)),
-        None => (0, 0),
-    };
-    Fault {
-        hart,
-        step,
-        misfit: Misfit::NoOperation,
+    match turn_at(file, index) {
+        Some(turn) => Fault {
+            hart: turn.hart,
+            step: turn.number.unwrap_or(0),
+            misfit: Misfit::NoOperation,
+        },
+        None => Fault {
+            hart: 0,
+            step: 0,
+            misfit: Misfit::NoOperation,
+        },
     }
+}
+
+/// The turn of the order at an index.
+fn turn_at(file: &ExecutionFile, index: usize) -> Option<Turn>
+    ensures { result ≡ slice_get file.now.order.items index }
+{
+    file.order.get(index).copied()
 }

@@ -1,0 +1,8 @@
+use Rattle.std.proofs.Common.{ℕ}
+use Rattle.execution_scripts.specs.Courses.{AreWithin, Course, IsOn}
+use Rattle.execution_scripts.proofs.Going.{at}
+use Rattle.execution_scripts.proofs.Loops.{HasGone}
+use Rattle.execution_scripts.proofs.following.Follower.run_on.Given as goal
+
+abbrev pub invariant-loop-step : goal.invariant-loop-step
+invariant-loop-step l = (c : Course) (n : ℕ) → IsOn c n l.fn.self → AreWithin c.lines (at l.fn.self) → (k : ℕ) × HasGone c n l.hart k l._step (at l.fn.self) l.self
