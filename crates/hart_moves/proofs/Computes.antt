@@ -21,7 +21,7 @@ use Rattle.all_endings.specs.StoreLists.{Stored}
 use Rattle.run_bounds.specs.declared.operation.Operation.{Operation}
 use Rattle.hart_moves.specs.Choosing.{ComputesSo, knows}
 use Rattle.run_bounds.specs.Operations.{operation_in}
-use Rattle.hart_moves.proofs.Choices.{answers_elsewhere}
+use Rattle.hart_states.proofs.Choices.{answers_elsewhere}
 use Rattle.hart_moves.proofs.Inverting.{same_operation}
 
 knows_all : (r : Registers) (v : List (Option ℕ)) → Knows r v → knows r v ≡ true

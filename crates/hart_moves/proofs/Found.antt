@@ -6,6 +6,7 @@ use Rattle.round_schedule.specs.Accesses.{stores as writing}
 use Rattle.pages.specs.Memory.{in_range, width_bytes}
 use Rattle.rv64_decode.specs.declared.instruction.Instr.{Instr}
 use Rattle.memory_order.specs.Operations.{covers}
+use Rattle.memory_order.proofs.Bounding.{range_at}
 use Rattle.memory_order.specs.Registers.{registers_of}
 use Rattle.rule_checker.specs.CarriedBounds.{AllowedBy}
 use Rattle.rule_checker.specs.Kinds.{AllowedByKind}
@@ -13,15 +14,15 @@ use Rattle.all_endings.specs.HartRuns.{Stands}
 use Rattle.all_endings.specs.Locality.{set_view}
 use Rattle.all_endings.specs.RunStates.{Move, RunState, answers_to, behind}
 use Rattle.all_endings.specs.StoreLists.{Stored, later}
-use Rattle.hart_moves.specs.declared.choice.Choice.{Choice}
+use Rattle.hart_states.specs.declared.choice.Choice.{Choice}
 use Rattle.run_bounds.specs.declared.operation.Kind.{Kind}
 use Rattle.run_bounds.specs.declared.operation.Kind.TheVariants.{Load, Store, LoadReserved, StoreConditional, Atomic}
 use Rattle.run_bounds.specs.declared.operation.Operation.{Operation}
-use Rattle.hart_moves.specs.Choices.{move_of}
-use Rattle.hart_moves.specs.Choosing.{IsFound, is_loading}
-use Rattle.hart_moves.specs.Moves.{place_done}
+use Rattle.hart_states.specs.Choices.{move_of}
+use Rattle.hart_moves.specs.Choosing.{IsFound, is_storing}
+use Rattle.hart_states.specs.Following.{place_done}
 use Rattle.run_bounds.specs.Operations.{access_as, access_of}
-use Rattle.hart_moves.proofs.Touched.{within_range}
+use Rattle.hart_states.proofs.Touched.{within_range}
 
 -- ---- where an operation stands
 
@@ -82,15 +83,32 @@ address_as k o e = by_kind o.kind
     by_kind StoreConditional = (refl, refl)
     by_kind Atomic = (refl, refl)
 
-pub loading_only : (o : Operation) → is_loading o.kind ≡ true → writing (access_of o) ≡ false
-loading_only o e = by_kind o.kind e
+pub storing_writes : (o : Operation) → is_storing o.kind ≡ true → writing (access_of o) ≡ true
+storing_writes o e = by_kind o.kind e
   where
-    by_kind : (k : Kind) → is_loading k ≡ true → writing (access_as k o.address o.width o.ordering) ≡ false
-    by_kind Load e = refl
-    by_kind Store e = absurd (cc)
-    by_kind LoadReserved e = refl
-    by_kind StoreConditional e = absurd (cc)
+    by_kind : (k : Kind) → is_storing k ≡ true → writing (access_as k o.address o.width o.ordering) ≡ true
+    by_kind Load e = absurd (cc)
+    by_kind Store e = refl
+    by_kind LoadReserved e = absurd (cc)
+    by_kind StoreConditional e = refl
     by_kind Atomic e = absurd (cc)
+
+pub storing_only : (o : Operation) → is_storing o.kind ≡ true → loads (access_of o) ≡ false
+storing_only o e = by_kind o.kind e
+  where
+    by_kind : (k : Kind) → is_storing k ≡ true → loads (access_as k o.address o.width o.ordering) ≡ false
+    by_kind Load e = absurd (cc)
+    by_kind Store e = refl
+    by_kind LoadReserved e = absurd (cc)
+    by_kind StoreConditional e = refl
+    by_kind Atomic e = absurd (cc)
+
+-- each of its bytes is one of the operation
+pub covers_at : (o : Operation) (k : ℕ) → k < width_bytes o.width → covers (access_of o) (o.address + k) ≡ true
+covers_at o k l =
+    let p = address_as o.kind o refl in
+    ap (λ (n : ℕ). in_range n (bytes_of (access_of o)) (o.address + k)) p.0 ∙ ap (λ (n : ℕ). in_range o.address n (o.address + k)) p.1
+    ∙ range_at o.address (width_bytes o.width) k l
 
 -- a byte of an operation is one of its bytes
 pub covered_at : (o : Operation) (x : ℕ) → covers (access_of o) x ≡ true → (k : ℕ) × (k < width_bytes o.width) × (o.address + k ≡ x) × (x - address_of (access_of o) ≡ k)

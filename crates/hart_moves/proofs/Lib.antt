@@ -1,9 +1,10 @@
 pub mod Allowed
-pub mod Choices
+pub mod Atomicity
 pub mod Computes
 pub mod Found
 pub mod Inverting
-pub mod Kept
 pub mod Lower
-pub mod Readings
-pub mod Touched
+pub mod Offered
+pub mod Others
+pub mod Settled
+pub mod Stops

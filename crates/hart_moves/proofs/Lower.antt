@@ -7,11 +7,11 @@ use Rattle.all_endings.specs.Earlier.{EarlierMovesAreLower, IsNoLater, IsSized}
 use Rattle.all_endings.specs.RunStates.{Move, RunState}
 use Rattle.all_endings.specs.StoreLists.{Stored}
 use Rattle.all_endings.proofs.Walking.{lower_on}
-use Rattle.hart_moves.specs.declared.moving.Successor.{Successor}
-use Rattle.hart_moves.specs.declared.choice.Choice.{Choice}
-use Rattle.hart_moves.specs.Choices.{move_of}
+use Rattle.hart_states.specs.declared.following.Successor.{Successor}
+use Rattle.hart_states.specs.declared.choice.Choice.{Choice}
+use Rattle.hart_states.specs.Choices.{move_of}
 use Rattle.hart_moves.specs.Choosing.{IsFound}
-use Rattle.hart_moves.specs.Moves.{Follows, place_done}
+use Rattle.hart_states.specs.Following.{Follows, place_done}
 
 -- what a move leaves that does the same no later is what this move leaves, or lower
 pub follows_earlier : EarlierMovesAreLower → (h : ℕ) (m : List Stored) (a : RunState) (v w : Move) (s : Successor) → IsSized a → AreRegisters (registers_of v.instruction) →

@@ -1,5 +1,4 @@
-pub mod Choices
 pub mod Choosing
 pub mod Moves
-pub mod Readings
-pub mod States
+pub mod Offers
+pub mod Stops

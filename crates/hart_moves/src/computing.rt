@@ -1,6 +1,5 @@
-//! An instruction that computes, jumps or branches.
+//! An instruction that computes, jumps or branches, and a fence.
 ghost use Rattle.std.specs.Prelude.{◌≡◌, ◌<◌, ◌&&◌, length, ℕ, List, Option, if◌then◌else◌, replicate, IfOk, IfSome, None, Some};
-ghost use Rattle.round_schedule.specs.declared.access.Stepped.TheVariants.{Done};
 ghost use Rattle.hart_step.specs.Buffered.{seen_through};
 ghost use Rattle.hart_step.specs.DecodedCode.{decoded};
 ghost use Rattle.hart_step.specs.Effect.{action};
@@ -10,12 +9,13 @@ ghost use Rattle.hart_step.specs.Registers.{reg};
 ghost use Rattle.all_endings.specs.Locality.{filled};
 ghost use Rattle.all_endings.specs.RunStates.{Move, answers_to};
 ghost use Rattle.all_endings.specs.StoreLists.{Stored};
-ghost use Rattle.hart_moves.specs.Choosing.{ComputesSo, IsFound, knows};
-ghost use Rattle.hart_moves.specs.States.{state_of};
+ghost use Rattle.rv64_decode.specs.declared.instruction.Instr.TheVariants.{Fence};
+ghost use Rattle.round_schedule.specs.declared.access.Access.TheVariants.{Fence as FenceOf};
+ghost use Rattle.hart_moves.specs.Stops.{IsLeftBy};
+ghost use Rattle.hart_moves.specs.Choosing.{ComputesSo, IsFound, OrdersSo, knows};
+ghost use Rattle.hart_states.specs.States.{state_of};
 
-use crate::choice::Choice;
-use crate::registers::{answered, filled, known};
-use crate::run_state::RunState;
+use hart_states::{Choice, RunState, answered, filled, known};
 use hart_step::{Buffered, Hart, step_decoded};
 use memory_order::{Registers, used_registers};
 use pages::{OutOfMemory, Pages};
@@ -36,6 +36,35 @@ pub(crate) fn idle() -> Access
         after: none,
         mode: FenceMode::Normal,
         place: 0,
+    }
+}
+
+/// A fence.
+pub(crate) fn fence(
+    state: &RunState,
+    i: &Instr,
+    before: FenceSet,
+    after: FenceSet,
+    mode: FenceMode,
+) -> Choice
+    ensures found { (m : List Stored) (v : Move) → v.instruction ≡ i.now →
+        i.now ≡ Fence before after mode → OrdersSo before after mode (state_of state.now) v →
+        IsFound m (state_of state.now) (Some result) v }
+    ensures fits { result.access ≡ FenceOf before after mode 0 }
+{
+    Choice {
+        instruction: *i,
+        access: Access::Fence {
+            before,
+            after,
+            mode,
+            place: 0,
+        },
+        time: 0,
+        result: None,
+        written: None,
+        sources: [0; 8],
+        next: state.pc.wrapping_add(4),
     }
 }
 
@@ -65,12 +94,14 @@ pub(crate) fn hart_of(state: &RunState) -> Hart
 }
 
 /// Does a hart's next instruction, over memory as it is seen through a buffer.
-fn step_through(h: &mut Hart, bus: &mut Buffered<'_>, i: Instr) -> Result<Stepped, OutOfMemory>
+pub(crate) fn step_through(
+    h: &mut Hart,
+    bus: &mut Buffered<'_>,
+    i: Instr,
+) -> Result<Stepped, OutOfMemory>
     requires known { decoded (seen_through bus.old) h.old.pc ≡ Some i }
-    ensures { IfOk result (λ answer. (register number pc : ℕ) →
-        performed (action i h.old.x h.old.pc) h.old (seen_through bus.old) ≡
-        put_to h.old register number pc →
-        (answer ≡ Done None) × (h.new ≡ went_on h.old register number pc)) }
+    ensures { IfOk result (λ answer. IsLeftBy
+        (performed (action i h.old.x h.old.pc) h.old (seen_through bus.old)) answer h.new) }
 {
     let answer = step_decoded(h, bus, i)?;
     Ok(answer)

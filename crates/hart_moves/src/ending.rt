@@ -1,13 +1,15 @@
 //! What has to be known where a run ends.
-ghost use Rattle.std.specs.Prelude.{◌↔◌, IsTrue};
+ghost use Rattle.std.specs.Prelude.{◌↔◌, ◌≤◌, ℕ, IsTrue};
+ghost use Rattle.run_bounds.specs.Touched.{known_at};
+ghost use Rattle.all_endings.specs.Tables.{IsSettled};
 ghost use Rattle.all_endings.specs.Factorizing.{IsOpenCall};
 ghost use Rattle.all_endings.specs.Halting.{KnowsRegisters};
-ghost use Rattle.hart_moves.specs.States.{state_of};
+ghost use Rattle.hart_states.specs.States.{listed, state_of};
 
 use crate::moving::instruction_at;
-use crate::registers::known;
-use crate::run_state::RunState;
+use hart_states::{ListedStore, RunState, known};
 use pages::Pages;
+use run_bounds::{TouchedByte, byte_known};
 use rv64_decode::{Instr, Reg};
 
 /// Whether all registers are known.
@@ -16,6 +18,25 @@ pub fn knows_registers(state: &RunState) -> bool
 {
     for r in 0u8..32 {
         if known(&state.registers, Reg::new(r)).is_none() {
+            return false;
+        }
+    }
+    true
+}
+
+/// Whether nothing that a run did is later.
+pub fn is_settled(list: &[ListedStore], state: &RunState) -> bool
+    ensures { IsTrue result ↔ IsSettled (listed list.now) (state_of state.now) }
+{
+    all_before(&state.bytes, list.len())
+}
+
+/// Whether no byte is touched behind a time.
+fn all_before(bytes: &[TouchedByte], time: usize) -> bool
+    ensures { IsTrue result ↔ ((x : ℕ) → (known_at bytes.now x).touched ≤ time) }
+{
+    for index in 0..bytes.len() {
+        if byte_known(bytes, bytes[index].address).touched > time {
             return false;
         }
     }

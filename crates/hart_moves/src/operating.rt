@@ -1,24 +1,24 @@
-//! The moves of a load or a store, at each time at which it can stand.
-ghost use Rattle.std.specs.Prelude.{◌≡◌, ◌+◌, ◌≤◌, ◌^◌, length, Contains, IfOk, IfSome, OnOk};
+//! The moves of a memory operation, at each time at which it can stand.
+ghost use Rattle.std.specs.Prelude.{◌≡◌, ◌+◌, ◌≤◌, ◌^◌, true, length, Contains, IfOk, IfSome, OnOk};
 ghost use Rattle.pages.specs.Memory.{width_bytes};
 ghost use Rattle.round_schedule.specs.Accesses.{address_of, bytes_of};
+ghost use Rattle.round_schedule.specs.Accesses.{stores as writing};
 ghost use Rattle.rule_checker.specs.CarriedBounds.{AreRegisters};
 ghost use Rattle.all_endings.specs.Endings.{opening_bytes};
-ghost use Rattle.all_endings.specs.HartRuns.{Stands};
+ghost use Rattle.all_endings.specs.HartRuns.{IsPlaced, Stands};
 ghost use Rattle.all_endings.specs.RunStates.{Move};
-ghost use Rattle.hart_moves.specs.Choosing.{DoesSo, IsComing, IsFound};
-ghost use Rattle.hart_moves.specs.Moves.{HasFollower};
 ghost use Rattle.run_bounds.specs.Operations.{access_of};
-ghost use Rattle.hart_moves.specs.States.{listed, state_of};
-ghost use Rattle.hart_moves.specs.declared.moving.Successor.{Successor as Left};
+ghost use Rattle.hart_states.specs.declared.following.Successor.{Successor as Left};
+ghost use Rattle.hart_states.specs.States.{listed, state_of};
+ghost use Rattle.hart_moves.specs.Choosing.{DoesSo, FailsSo, IsComing, IsFound};
+ghost use Rattle.hart_moves.specs.Moves.{HasFollower};
 
-use crate::choice::Choice;
-use crate::choosing::{Coming, load_at, place_at};
-use crate::following::{follow, has_all};
-use crate::listed_store::ListedStore;
-use crate::moving::Successor;
-use crate::run_state::RunState;
+use crate::coming::Coming;
+use crate::loading::load_at;
+use crate::standing::may_stand;
+use crate::storing::{failing, is_placed, storing_at};
 use all_endings::earlier_moves_are_lower;
+use hart_states::{Choice, ListedStore, RunState, Successor, follow, is_sized};
 use memory_order::{Registers, used_registers};
 use pages::{OutOfMemory, Pages};
 use run_bounds::Kind;
@@ -54,7 +54,7 @@ pub(crate) fn add(
         Some(choice) => {
             earlier_moves_are_lower();
             are_registers(&used_registers(&choice.instruction));
-            has_all(&state.carried.registers);
+            is_sized(state);
             let left = follow(list, hart, state, &choice)?;
             found.push(left)?;
             Ok(())
@@ -63,8 +63,8 @@ pub(crate) fn add(
     }
 }
 
-/// A load or a store at a time, where it can stand there.
-fn choice_at(
+/// An operation at a time, wherever the list has it.
+pub(crate) fn operation_at(
     list: &[ListedStore],
     pages: &Pages,
     hart: u8,
@@ -82,14 +82,48 @@ fn choice_at(
         IsFound (listed list.now) (state_of state.now) result v }
     ensures fits { IfSome result (λ c. c.access ≡ access_of coming.now.operation) }
 {
+    let _pages = pages.count();
+    let access = coming.operation.access();
+    if !may_stand(state, coming, &access, time) {
+        return None;
+    }
     match coming.operation.kind {
-        Kind::Load | Kind::LoadReserved => load_at(list, pages, state, coming, time),
-        Kind::Store => place_at(list, hart, state, coming, time),
-        Kind::StoreConditional | Kind::Atomic => None,
+        Kind::Load | Kind::LoadReserved | Kind::Atomic => {
+            load_at(list, pages, state, coming, time)
+        }
+        Kind::Store | Kind::StoreConditional => storing_at(list, hart, state, coming, time),
     }
 }
 
-/// What the moves of a load or a store leave.
+/// An operation at a time, where the list has it there if it stores, or it is later.
+fn placed_at(
+    list: &[ListedStore],
+    pages: &Pages,
+    hart: u8,
+    state: &RunState,
+    coming: &Coming,
+    time: usize,
+) -> Option<Choice>
+    requires coming { IsComing (state_of state.now) coming.now }
+    requires within { coming.now.operation.address + width_bytes coming.now.operation.width ≤
+        length pages.now.memory.bytes }
+    ensures found { (v : Move) → v.instruction ≡ coming.now.instruction → v.time ≡ time →
+        Stands (state_of state.now) v →
+        DoesSo hart (listed list.now) (opening_bytes pages.now.memory) (state_of state.now)
+        coming.now.operation v →
+        (writing v.access ≡ true → IsPlaced hart (listed list.now) v) →
+        IsFound (listed list.now) (state_of state.now) result v }
+    ensures fits { IfSome result (λ c. c.access ≡ access_of coming.now.operation) }
+{
+    match operation_at(list, pages, hart, state, coming, time) {
+        Some(choice)
+            if choice.access.stores()
+                && !is_placed(list, hart, &coming.operation, choice.written, time) => { None }
+        found => found,
+    }
+}
+
+/// What the moves of a memory operation leave.
 pub(crate) fn operate(
     alloc: Global,
     pages: &Pages,
@@ -101,16 +135,21 @@ pub(crate) fn operate(
     requires coming { IsComing (state_of state.now) coming.now }
     requires within { coming.now.operation.address + width_bytes coming.now.operation.width ≤
         length pages.now.memory.bytes }
-    ensures { IfOk result (λ found. (v : Move) → v.instruction ≡ coming.now.instruction →
+    ensures does { IfOk result (λ found. (v : Move) → v.instruction ≡ coming.now.instruction →
         Stands (state_of state.now) v →
         DoesSo hart (listed list.now) (opening_bytes pages.now.memory) (state_of state.now)
         coming.now.operation v →
+        (writing v.access ≡ true → IsPlaced hart (listed list.now) v) →
+        HasFollower hart (listed list.now) (state_of state.now) v found.items) }
+    ensures fails { IfOk result (λ found. (v : Move) → v.instruction ≡ coming.now.instruction →
+        FailsSo (state_of state.now) coming.now.operation v →
         HasFollower hart (listed list.now) (state_of state.now) v found.items) }
 {
     let _pages = pages.count();
     let mut found = Vec::new(alloc);
+    add(&mut found, list, hart, state, failing(state, coming))?;
     for time in 0..list.len() + 2 {
-        let choice = choice_at(list, pages, hart, state, coming, time);
+        let choice = placed_at(list, pages, hart, state, coming, time);
         add(&mut found, list, hart, state, choice)?;
     }
     Ok(found)

@@ -8,9 +8,9 @@ use Rattle.memory_order.specs.declared.registers.Registers.{Registers}
 use Rattle.memory_order.specs.Registers.{registers_of}
 use Rattle.all_endings.specs.Locality.{set_view}
 use Rattle.all_endings.specs.RunStates.{answers_to}
-use Rattle.hart_moves.specs.declared.choice.Choice.{Choice}
+use Rattle.hart_states.specs.declared.choice.Choice.{Choice}
 use Rattle.hart_moves.specs.Choosing.{knows}
-use Rattle.hart_moves.specs.States.{state_of}
+use Rattle.hart_states.specs.States.{state_of}
 use Rattle.hart_moves.proofs.Computes.{put_same}
 use Rattle.hart_moves.proofs.Found.{found_idle}
 use Rattle.hart_moves.proofs.computing.compute.Goals as goal

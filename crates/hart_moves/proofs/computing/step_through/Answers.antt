@@ -6,7 +6,7 @@ use Rattle.hart_moves.proofs.Allowed.{step_known}
 use Rattle.hart_moves.proofs.computing.step_through.Goals as goal
 
 pub returns : goal.returns
-returns c = λ rd n pc e.
+returns c =
     let d = c.in_ok-answer.ensures.did in
-    let is = step_known (seen_through c.args.bus.now) c.args.h.now c.args.i c.requires.known ∙ e in
-    (d.answer ∙ ap (λ (o : StepOutcome Hart). o.answer) is, d.hart ∙ ap (λ (o : StepOutcome Hart). o.hart) is)
+    let is = step_known (seen_through c.args.bus.now) c.args.h.now c.args.i c.requires.known in
+    record { answer = d.answer ∙ ap (λ (o : StepOutcome Hart). o.answer) is; hart = d.hart ∙ ap (λ (o : StepOutcome Hart). o.hart) is }

@@ -6,15 +6,15 @@ use Rattle.hart_step.specs.DecodedCode.{decoded}
 use Rattle.all_endings.specs.RunStates.{RunState}
 use Rattle.all_endings.specs.StoreLists.{Stored}
 use Rattle.hart_moves.specs.declared.moving.Reached.{Reached}
-use Rattle.hart_moves.specs.declared.moving.Reached.TheVariants.{Whole, Open}
+use Rattle.hart_moves.specs.declared.moving.Reached.TheVariants.{AnyAnswer, Whole}
 use Rattle.hart_moves.specs.Moves.{AreMoves, AreMovesBy}
-use Rattle.hart_moves.specs.States.{listed, state_of}
+use Rattle.hart_states.specs.States.{listed, state_of}
 use Rattle.hart_moves.proofs.moving.moves.Goals as goal
 
 -- the moves are those of the instruction that is there
 moves_by : (image : Memory) (h : ℕ) (m : List Stored) (a : RunState) (i : Instr) → decoded image a.pc ≡ Some i → (r : Reached) → AreMovesBy image h m a i r → AreMoves image h m a r
 moves_by image h m a i there (Whole ss) by = λ v at doing stands. by v (let e = at in cc) doing stands
-moves_by image h m a i there Open by = (i, there, by)
+moves_by image h m a i there AnyAnswer by = (i, there, by)
 
 if_ok : (r : Result Reached OutOfMemory) (P Q : Reached → Type 0) → ((x : Reached) → P x → Q x) → IfOk r P → IfOk r Q
 if_ok (Ok x) P Q f p = f x p

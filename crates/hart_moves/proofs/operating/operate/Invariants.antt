@@ -1,14 +1,18 @@
-use Rattle.std.proofs.Common.{◌≡◌, ◌<◌}
+use Rattle.std.proofs.Common.{◌≡◌, ◌<◌, true}
+use Rattle.round_schedule.specs.Accesses.{stores as writing}
 use Rattle.all_endings.specs.Endings.{opening_bytes}
-use Rattle.all_endings.specs.HartRuns.{Stands}
+use Rattle.all_endings.specs.HartRuns.{IsPlaced, Stands}
 use Rattle.all_endings.specs.RunStates.{Move}
-use Rattle.hart_moves.specs.Choosing.{DoesSo}
+use Rattle.hart_states.specs.States.{listed, state_of}
+use Rattle.hart_moves.specs.Choosing.{DoesSo, FailsSo}
 use Rattle.hart_moves.specs.Moves.{HasFollower}
-use Rattle.hart_moves.specs.States.{listed, state_of}
 use Rattle.hart_moves.proofs.operating.operate.Given as goal
 
 abbrev pub invariant-loop-time : goal.invariant-loop-time
-invariant-loop-time l =
-    (v : Move) → v.instruction ≡ l.coming.instruction → Stands (state_of l.state) v →
-    DoesSo l.hart (listed l.list) (opening_bytes l.pages.memory) (state_of l.state) l.coming.operation v → v.time < l.time →
-    HasFollower l.hart (listed l.list) (state_of l.state) v l.found.items
+invariant-loop-time l = record {
+  does : (v : Move) → v.instruction ≡ l.coming.instruction → Stands (state_of l.state) v →
+      DoesSo l.hart (listed l.list) (opening_bytes l.pages.memory) (state_of l.state) l.coming.operation v →
+      (writing v.access ≡ true → IsPlaced l.hart (listed l.list) v) → v.time < l.time → HasFollower l.hart (listed l.list) (state_of l.state) v l.found.items;
+  fails : (v : Move) → v.instruction ≡ l.coming.instruction → FailsSo (state_of l.state) l.coming.operation v →
+      HasFollower l.hart (listed l.list) (state_of l.state) v l.found.items;
+}

@@ -1,0 +1,4 @@
+pub mod Choices
+pub mod Kept
+pub mod Readings
+pub mod Touched

@@ -1,0 +1,4 @@
+pub mod Choices
+pub mod Following
+pub mod Readings
+pub mod States

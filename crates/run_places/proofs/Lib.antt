@@ -1,0 +1,4 @@
+pub mod Followed
+pub mod KnownBytes
+pub mod Paid
+pub mod Standing

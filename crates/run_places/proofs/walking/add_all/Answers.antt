@@ -1,0 +1,26 @@
+use Rattle.std.proofs.Common.{List, [], ◌∷◌, Contains, sym, subst, inl, inr}
+use Rattle.std.proofs.lemmas.List.{map-append}
+use Rattle.std.proofs.lemmas.List.Elements.{Contains-push_cases}
+use Rattle.all_endings.specs.Walking.{Place, StandsFor}
+use Rattle.run_places.specs.Places.{place_of, places_of}
+use Rattle.run_places.proofs.Standing.{covered_stays, grows_on, stands_on}
+use Rattle.run_places.proofs.walking.add_all.Goals as goal
+
+pub loop-place-preserved : goal.loop-place-preserved
+loop-place-preserved c =
+    let i = c.loop-place.invariant in
+    let old = c.loop-place.places.all.items in
+    let new = c.add.new.self.all.items in
+    let place = c.in-Some.place in
+    let yielded = c.loop-place.yielded in
+    let kept = c.in_ok-add.ensures in
+    record {
+      grows = grows_on c.args.places.now.all.items old new i.grows kept.grows;
+      covered = λ m p at. elim (Contains-push_cases (places_of yielded) (place_of place) at.0
+          (subst (λ (qs : List Place). Contains qs at.0) (map-append place_of yielded (place ∷ [])) at.1)) [
+            | inl before ↦ covered_stays m old new p kept.grows (i.covered m p (at.0, before, at.2))
+            | inr now ↦
+                let k = kept.covered m in
+                (k.0, k.1, stands_on m k.0 (place_of place) p k.2 (subst (λ (q : Place). StandsFor m q p) (sym now) at.2))
+          ];
+    }

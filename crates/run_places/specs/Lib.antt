@@ -1,0 +1,5 @@
+pub mod Bounds
+pub mod Following
+pub mod Found
+pub mod Places
+pub mod Walks

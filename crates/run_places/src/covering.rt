@@ -1,0 +1,90 @@
+//! The places of a hart's runs, each beside those at the same instruction.
+ghost use Rattle.std.specs.Prelude.{◌≡◌, List, [], IsTrue, OnOk};
+ghost use Rattle.all_endings.specs.StoreLists.{Stored};
+ghost use Rattle.all_endings.specs.Walking.{IsCovered};
+ghost use Rattle.run_places.specs.Places.{Grows, place_of, places_of};
+
+use crate::lower::stands_for;
+use crate::place::{Place, is_itself};
+use pages::OutOfMemory;
+use std::alloc::Global;
+use std::collections::HashMap;
+
+/// The places so far.
+#[derive(Drop)]
+pub(crate) struct Places {
+    /// In the order in which they were come to.
+    pub(crate) all: Vec<Place>,
+    /// Of each instruction's address the latest of the places there, and of each place the one there before it. No more hangs on them than
+    /// which places are looked at.
+    latest: HashMap<u64, usize>,
+    before: Vec<Option<usize>>,
+}
+
+impl Places {
+    /// None so far.
+    pub(crate) fn new(alloc: Global) -> Places
+        ensures { result.all.items ≡ [] }
+    {
+        Places {
+            all: Vec::new(alloc),
+            latest: HashMap::new(alloc),
+            before: Vec::new(alloc),
+        }
+    }
+
+    /// Adds a place, unless one that is there stands for it.
+    ///
+    /// # Errors
+    ///
+    /// `OutOfMemory` alone.
+    pub(crate) fn add(&mut self, place: Place) -> Result<(), OutOfMemory>
+        ensures grows { OnOk result (Grows self.old.all.items self.new.all.items) }
+        ensures covered { OnOk result ((m : List Stored) →
+            IsCovered m (places_of self.new.all.items) (place_of place)) }
+    {
+        if self.covers(&place) {
+            return Ok(());
+        }
+        let index = self.all.len();
+        let pc = place.state.pc;
+        let before = self.latest.insert(pc, index)?;
+        self.before.push(before)?;
+        is_itself(&place);
+        self.all.push(place)?;
+        Ok(())
+    }
+
+    /// Whether one that is there stands for a place.
+    fn covers(&self, place: &Place) -> bool
+        ensures { IsTrue result → (m : List Stored) →
+            IsCovered m (places_of self.now.all.items) (place_of place.now) }
+    {
+        let mut at = self.latest.get(&place.state.pc).copied();
+        for _ in 0..self.all.len() {
+            let index = match at {
+                Some(index) => index,
+                None => return false,
+            };
+            if stands_at(&self.all, index, place) {
+                return true;
+            }
+            at = match self.before.get(index) {
+                Some(before) => *before,
+                None => None,
+            };
+        }
+        false
+    }
+}
+
+/// Whether a place that is there stands for another one.
+fn stands_at(all: &[Place], index: usize, place: &Place) -> bool
+    ensures { IsTrue result → (m : List Stored) →
+        IsCovered m (places_of all.now) (place_of place.now) }
+{
+    if index >= all.len() {
+        return false;
+    }
+    stands_for(&all[index], place)
+}

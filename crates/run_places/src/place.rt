@@ -1,0 +1,119 @@
+//! Where a run of a hart is.
+ghost use Rattle.std.specs.Prelude.{◌≡◌, ◌<◌, ◌-◌, ◌^◌, ℕ, true, List, length, IfOk};
+ghost use Rattle.all_endings.specs.RunStates.{Move};
+ghost use Rattle.all_endings.specs.StoreLists.{Stored};
+ghost use Rattle.all_endings.specs.Walking.{StandsFor, place_after, place_with};
+ghost use Rattle.hart_states.specs.Following.{Follows};
+ghost use Rattle.hart_states.specs.States.{state_of, stored_of};
+ghost use Rattle.run_places.specs.Places.{is_among, place_of};
+
+use hart_states::{ListedStore, RunState, Successor, is_sized};
+use pages::OutOfMemory;
+use std::alloc::Global;
+
+/// Where a run of a hart is.
+#[derive(Drop)]
+pub struct Place {
+    /// Its state.
+    pub state: RunState,
+    /// How many instructions it did.
+    pub count: u64,
+    /// Which stores of the list it did.
+    pub paid: Vec<usize>,
+    /// The store that comes next, if it was offered one.
+    pub next: Option<ListedStore>,
+}
+
+/// Whether a store of the list is among those that were done.
+pub(crate) fn is_paid(paid: &[usize], store: usize) -> bool
+    ensures { result ≡ is_among paid.now store }
+{
+    paid.contains(&store)
+}
+
+/// The place behind a move.
+pub(crate) fn place_behind(
+    alloc: Global,
+    place: &Place,
+    successor: Successor,
+) -> Result<Place, OutOfMemory>
+    requires { place.now.count < 2 ^ 64 - 1 }
+    ensures { IfOk result (λ q. (h : ℕ) (m : List Stored) (v : Move) →
+        Follows h m (state_of place.now.state) v successor →
+        StandsFor m (place_of q) (place_after h m (place_of place.now) v)) }
+{
+    let Successor { state, done } = successor;
+    Ok(Place {
+        state,
+        count: place.count + 1,
+        paid: paid_more(alloc, &place.paid, done)?,
+        next: place.next,
+    })
+}
+
+/// What was done, and one store more.
+fn paid_more(alloc: Global, paid: &[usize], done: Option<usize>) -> Result<Vec<usize>, OutOfMemory>
+    ensures kept { IfOk result (λ v. (j : ℕ) → is_among paid.now j ≡ true → is_among v.items j ≡
+        true) }
+    ensures more { IfOk result (λ v. (j : ℕ) → done ≡ Some j → is_among v.items j ≡ true) }
+{
+    match done {
+        Some(store) => paid_with(alloc, paid, store),
+        None => Ok(Vec::from_slice(alloc, paid)?),
+    }
+}
+
+fn paid_with(alloc: Global, paid: &[usize], store: usize) -> Result<Vec<usize>, OutOfMemory>
+    ensures kept { IfOk result (λ v. (j : ℕ) → is_among paid.now j ≡ true → is_among v.items j ≡
+        true) }
+    ensures more { IfOk result (λ v. is_among v.items store ≡ true) }
+{
+    let mut all = Vec::from_slice(alloc, paid)?;
+    if is_paid(paid, store) {
+        return Ok(all);
+    }
+    all.push(store)?;
+    Ok(all)
+}
+
+/// The place with a store that comes next.
+pub(crate) fn place_with(
+    alloc: Global,
+    place: &Place,
+    store: ListedStore,
+) -> Result<Place, OutOfMemory>
+    ensures { IfOk result (λ q. (m : List Stored) →
+        StandsFor m (place_of q) (place_with (place_of place.now) (stored_of store))) }
+{
+    is_itself(place);
+    Ok(Place {
+        state: copied(alloc, &place.state)?,
+        count: place.count,
+        paid: Vec::from_slice(alloc, &place.paid)?,
+        next: Some(store),
+    })
+}
+
+/// The same state once more.
+fn copied(alloc: Global, state: &RunState) -> Result<RunState, OutOfMemory>
+    ensures { IfOk result (λ s. state_of s ≡ state_of state.now) }
+{
+    Ok(RunState {
+        pc: state.pc,
+        registers: state.registers,
+        kinds: state.kinds,
+        carried: state.carried,
+        bytes: Vec::from_slice(alloc, &state.bytes)?,
+        held: state.held,
+        reserved: state.reserved,
+        sources: state.sources,
+        output: Vec::from_slice(alloc, &state.output)?,
+    })
+}
+
+/// A place stands for itself.
+pub(crate) fn is_itself(place: &Place)
+    ensures { (m : List Stored) → StandsFor m (place_of place.now) (place_of place.now) }
+{
+    is_sized(&place.state);
+}

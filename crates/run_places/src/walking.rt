@@ -1,0 +1,165 @@
+//! A walk through all places.
+ghost use Rattle.std.specs.Prelude.{List, Contains, IfOk, IsTrue, OnOk};
+ghost use Rattle.all_endings.specs.StoreLists.{Stored};
+ghost use Rattle.all_endings.specs.Walking.{HartEnding, IsCovered, Place as RunPlace};
+ghost use Rattle.hart_ends.specs.Told.{ends_told};
+ghost use Rattle.hart_states.specs.States.{listed, stored_of};
+ghost use Rattle.run_places.specs.Found.{end_found, offer_told};
+ghost use Rattle.run_places.specs.Places.{Grows, places_of};
+ghost use Rattle.run_places.specs.Walks.{IsWalkOf};
+
+use crate::covering::Places;
+use crate::following::{Against, Found, Omission, Outcome, follow};
+use crate::place::Place;
+use hart_ends::{HartEnd, has_end};
+use hart_states::{ListedStore, start};
+use hart_step::Hart;
+use pages::OutOfMemory;
+use std::alloc::Global;
+
+/// What a hart's runs against a list came to.
+#[derive(Drop)]
+pub struct HartWalk {
+    /// The stores of the hart that may come next.
+    pub offered: Vec<ListedStore>,
+    /// How it ends, where it did all its stores of the list.
+    pub ends: Vec<HartEnd>,
+}
+
+/// What is said of a hart's runs.
+#[derive(Drop)]
+pub enum Walk {
+    /// All places were followed.
+    Whole(HartWalk),
+    /// Nothing, for this reason.
+    Unknown(Omission),
+}
+
+/// Walks through a hart's runs against a list, of at most so many instructions, by at most so many places.
+///
+/// # Errors
+///
+/// `OutOfMemory` alone.
+pub fn walk_hart(
+    alloc: Global,
+    against: &Against<'_>,
+    hart: &Hart,
+    most: usize,
+) -> Result<Walk, OutOfMemory>
+    ensures { IfOk result (λ w.
+        IsWalkOf against.now.steps against.now.pages.now.memory against.now.hart
+        (listed against.now.list.now) hart.now w) }
+{
+    let mut places = Places::new(alloc);
+    let state = start(alloc, hart);
+    let first = Place {
+        state,
+        count: 0,
+        paid: Vec::new(alloc),
+        next: None,
+    };
+    places.add(first)?;
+    let mut walk = HartWalk {
+        offered: Vec::new(alloc),
+        ends: Vec::new(alloc),
+    };
+    for done in 0..most {
+        if done >= places.all.len() {
+            return Ok(Walk::Whole(walk));
+        }
+        let outcome = follow(alloc, against, &places.all[done])?;
+        match outcome {
+            Outcome::Unknown(why) => return Ok(Walk::Unknown(why)),
+            Outcome::Whole(found) => take_in(&mut walk, &mut places, found)?,
+        }
+    }
+    Ok(Walk::Unknown(Omission::Places))
+}
+
+/// Keeps what follows a place.
+fn take_in(walk: &mut HartWalk, places: &mut Places, found: Found) -> Result<(), OutOfMemory>
+    ensures grows { OnOk result (Grows places.old.all.items places.new.all.items) }
+    ensures covered { OnOk result ((m : List Stored) (p : RunPlace) →
+        IsCovered m (places_of found.reached.items) p →
+        IsCovered m (places_of places.new.all.items) p) }
+    ensures offered_stay { OnOk result ((s : Stored) → Contains (listed walk.old.offered.items) s →
+        Contains (listed walk.new.offered.items) s) }
+    ensures offered { OnOk result ((s : Stored) → Contains (offer_told found.offered) s →
+        Contains (listed walk.new.offered.items) s) }
+    ensures ends_stay { OnOk result ((e : HartEnding) →
+        Contains (ends_told walk.old.ends.items) e → Contains (ends_told walk.new.ends.items) e) }
+    ensures ends { OnOk result ((e : HartEnding) → Contains (end_found found.end) e →
+        Contains (ends_told walk.new.ends.items) e) }
+{
+    let Found {
+        reached,
+        offered,
+        end,
+    } = found;
+    add_all(places, reached)?;
+    keep_offer(&mut walk.offered, offered)?;
+    keep_end(&mut walk.ends, end)
+}
+
+/// Keeps a store that may come next, if it is new.
+fn keep_offer(
+    stores: &mut Vec<ListedStore>,
+    offered: Option<ListedStore>,
+) -> Result<(), OutOfMemory>
+    ensures stay { OnOk result ((s : Stored) → Contains (listed stores.old.items) s →
+        Contains (listed stores.new.items) s) }
+    ensures there { OnOk result ((s : Stored) → Contains (offer_told offered) s →
+        Contains (listed stores.new.items) s) }
+{
+    let store = match offered {
+        Some(store) => store,
+        None => return Ok(()),
+    };
+    if has_store(stores, &store) {
+        return Ok(());
+    }
+    stores.push(store)?;
+    Ok(())
+}
+
+/// Keeps an end, if it is new.
+fn keep_end(ends: &mut Vec<HartEnd>, found: Option<HartEnd>) -> Result<(), OutOfMemory>
+    ensures stay { OnOk result ((e : HartEnding) → Contains (ends_told ends.old.items) e →
+        Contains (ends_told ends.new.items) e) }
+    ensures there { OnOk result ((e : HartEnding) → Contains (end_found found) e →
+        Contains (ends_told ends.new.items) e) }
+{
+    let end = match found {
+        Some(end) => end,
+        None => return Ok(()),
+    };
+    if has_end(ends, &end) {
+        return Ok(());
+    }
+    ends.push(end)?;
+    Ok(())
+}
+
+/// Adds places, but for those for which some stand.
+fn add_all(places: &mut Places, reached: Vec<Place>) -> Result<(), OutOfMemory>
+    ensures grows { OnOk result (Grows places.old.all.items places.new.all.items) }
+    ensures covered { OnOk result ((m : List Stored) (p : RunPlace) →
+        IsCovered m (places_of reached.items) p → IsCovered m (places_of places.new.all.items) p) }
+{
+    for place in reached {
+        places.add(place)?;
+    }
+    Ok(())
+}
+
+/// Whether a store is among some.
+fn has_store(stores: &[ListedStore], store: &ListedStore) -> bool
+    ensures { IsTrue result → Contains (listed stores.now) (stored_of store.now) }
+{
+    for other in stores {
+        if *other == *store {
+            return true;
+        }
+    }
+    false
+}
