@@ -1,0 +1,4 @@
+mod Lists
+mod Outputs
+mod Seen
+mod Ended

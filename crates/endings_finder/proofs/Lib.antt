@@ -1,0 +1,2 @@
+mod Confirmed
+mod Opened

@@ -1,0 +1,12 @@
+use Rattle.std.proofs.Common.{◌≡◌, List, subst}
+use Rattle.endings_finder.specs.AllEndings.{HasAll, guest_of}
+use Rattle.endings_table.specs.declared.others.Others.TheVariants.{Absent}
+use Rattle.hunt_table.specs.declared.seen_range.SeenRange.{SeenRange}
+use Rattle.endings_finder.proofs.finding.searched.Goals as goal
+
+pub returns-clause-all : goal.returns-clause-all
+returns-clause-all g c =
+    let s = c.args.settings.now in
+    let f = c.in_ok-findings.findings in
+    subst (λ (rs : List SeenRange). f.others ≡ Absent → HasAll (guest_of s.hunt c.args.image.now c.args.input.now) rs s.steps f.confirmed.endings.items) c.deref.ensures.value
+    c.in_ok-findings.ensures.all

@@ -1,0 +1,242 @@
+ghost use Rattle.std.specs.Prelude.{◌≡◌, ◌⊎◌, ◌≤◌, ℕ, Err, IfErr, IfOk, List, None, Some, false};
+ghost use Rattle.endings_table.specs.declared.others.Others.TheVariants.{Absent};
+ghost use Rattle.host_io.specs.declared.load_error.LoadError.{LoadError as ImageCause};
+ghost use Rattle.host_io.specs.declared.error.RunError.TheVariants as refusals;
+ghost use Rattle.host_io.specs.Writes.{IsFaultOr, WritesAnswer};
+ghost use Rattle.hunter.specs.Hunts.{IsHuntReason, IsImageCause, has_bad_range, hunt_fault};
+ghost use Rattle.hunter.specs.declared.error.HuntError.{HuntError as Refusal};
+ghost use Rattle.hunter.specs.declared.error.HuntError.TheVariants.{Run};
+ghost use Rattle.endings_finder.specs.AllEndings.{AreAllowed, AreConfirmed, AreKept, HasAll, IsSearchText, IsSearched, guest_of, guest_of_script};
+
+use crate::confirming::{Confirmed, has_waiting};
+use crate::guest::{Guest, searched_guest, searched_ranges};
+use crate::others::others_than;
+use crate::searching::{EndingsObserver, search_through};
+use crate::settings::EndingsSettings;
+use all_search::{Guest as SearchedGuest, Limits, Omission, Search};
+use elf_loader::Image;
+use endings_table::{EndingsTable, Others, Why, write_endings};
+use execution_scripts::{ExecutionFile, ScriptedGuest};
+use host_io::Sink;
+use hunter::{HuntError, check_hunt, check_ranges};
+use machine::load;
+use pages::{OutOfMemory, Range};
+use std::alloc::Global;
+
+/// What a search for all endings found.
+#[derive(Drop)]
+pub struct FoundEndings {
+    /// What it tells.
+    pub table: EndingsTable,
+    /// The execution of each ending, where they were to be kept.
+    pub executions: Vec<ExecutionFile>,
+    /// How many endings the judge refused, each by a fault of dethart.
+    pub refused: u64,
+}
+
+/// The parts of a table that a search finds.
+#[derive(Drop)]
+struct Findings {
+    nodes: u64,
+    confirmed: Confirmed,
+    others: Others,
+}
+
+/// Searches for all endings of a guest, and writes the table of those that were found, and of whether it has others. Each was put to the
+/// judge of endings. The observer looks on.
+///
+/// # Errors
+///
+/// The refusals of the settings, then of the image, then of the ranges; `OutOfMemory`; `SinkFailed`. Nothing is written before the search is
+/// over.
+pub fn find_endings<S: Sink, O: EndingsObserver>(
+    alloc: Global,
+    image: &[u8],
+    input: &[u8],
+    settings: EndingsSettings,
+    observer: &mut O,
+    out: &mut S,
+) -> Result<FoundEndings, HuntError>
+    // RVWMO allows an execution that ends so for each ending; where the table says that there are no others, it has all; an execution of each
+    // is kept, if they are asked for; and the sink takes the table's text.
+    ensures writes { WritesAnswer S.took S.failures (IsSearchText settings image.now input.now)
+        (IsFaultOr (hunt_fault settings.hunt) (IsHuntReason settings.hunt image.now))
+        (Run refusals.OutOfMemory) (Run refusals.SinkFailed) out.old out.new result }
+    // Where memory is refused, it took nothing.
+    ensures memory { result ≡ Err (Run refusals.OutOfMemory) → S.took out.new ≡ S.took out.old }
+    // Settings out of range are refused first, and then an image.
+    ensures settings { (e : Refusal) → hunt_fault settings.hunt ≡ Some e → result ≡ Err e }
+    ensures image { (cause : ImageCause) → hunt_fault settings.hunt ≡ None →
+        IsImageCause settings.hunt image.now cause →
+        (result ≡ Err (Run (refusals.Image cause))) ⊎ (result ≡ Err (Run refusals.OutOfMemory)) }
+    // No search looks at a range that is empty, or not all in memory.
+    ensures ranges { IfOk result (λ _. has_bad_range settings.hunt ≡ false) }
+{
+    let findings = searched(alloc, image, input, &settings, observer)?;
+    let found = told(findings, settings);
+    write_endings(alloc, &found.table, out)?;
+    Ok(found)
+}
+
+/// What is told of the findings.
+fn told(findings: Findings, settings: EndingsSettings) -> FoundEndings
+    ensures table { (file input : List ℕ) →
+        AreAllowed (guest_of settings.hunt file input) settings.hunt.header.ranges.items
+        findings.confirmed.endings.items →
+        (findings.others ≡ Absent →
+        HasAll (guest_of settings.hunt file input) settings.hunt.header.ranges.items settings.steps
+        findings.confirmed.endings.items) →
+        IsSearched settings file input result.table }
+    ensures kept { AreKept settings.keeps findings.confirmed.endings.items
+        findings.confirmed.executions.items →
+        AreKept settings.keeps result.table.endings.items result.executions.items }
+{
+    let Findings {
+        nodes,
+        confirmed,
+        others,
+    } = findings;
+    let Confirmed {
+        endings,
+        executions,
+        refused,
+    } = confirmed;
+    FoundEndings {
+        table: EndingsTable {
+            harts: settings.hunt.harts,
+            nodes,
+            steps: settings.steps,
+            endings,
+            others,
+            ranges: settings.into_ranges(),
+        },
+        executions,
+        refused,
+    }
+}
+
+/// What a search finds. The image is loaded once, but for each ending.
+fn searched<O: EndingsObserver>(
+    alloc: Global,
+    image: &[u8],
+    input: &[u8],
+    settings: &EndingsSettings,
+    observer: &mut O,
+) -> Result<Findings, HuntError>
+    ensures confirmed { IfOk result (λ f. AreConfirmed
+        (guest_of settings.now.hunt image.now input.now) settings.now.hunt.header.ranges.items
+        settings.now.keeps f.confirmed.endings.items f.confirmed.executions.items) }
+    ensures all { IfOk result (λ f. f.others ≡ Absent →
+        HasAll (guest_of settings.now.hunt image.now input.now)
+        settings.now.hunt.header.ranges.items settings.now.steps f.confirmed.endings.items) }
+    ensures settings { (e : Refusal) → hunt_fault settings.now.hunt ≡ Some e → result ≡ Err e }
+    ensures errors { hunt_fault settings.now.hunt ≡ None →
+        IfErr result (λ e. IsHuntReason settings.now.hunt image.now e) }
+    ensures image { (cause : ImageCause) → hunt_fault settings.now.hunt ≡ None →
+        IsImageCause settings.now.hunt image.now cause →
+        (result ≡ Err (Run (refusals.Image cause))) ⊎ (result ≡ Err (Run refusals.OutOfMemory)) }
+    ensures ranges { IfOk result (λ _. has_bad_range settings.now.hunt ≡ false) }
+{
+    let hunt = &settings.hunt;
+    check_hunt(hunt)?;
+    let loaded = load(alloc, hunt.format, image, hunt.pages)?;
+    check_ranges(hunt)?;
+    let guest = Guest {
+        alloc,
+        scripted: ScriptedGuest {
+            format: hunt.format,
+            pages: hunt.pages,
+            harts: hunt.harts,
+            image,
+            input,
+        },
+        ranges: &hunt.header.ranges,
+        keeps: settings.keeps,
+    };
+    let findings = findings_of(&guest, &loaded, settings, observer)?;
+    Ok(findings)
+}
+
+/// What a search in an image finds.
+fn findings_of<O: EndingsObserver>(
+    guest: &Guest<'_>,
+    image: &Image,
+    settings: &EndingsSettings,
+    observer: &mut O,
+) -> Result<Findings, OutOfMemory>
+    requires { settings.now.hunt.harts ≤ 64 }
+    ensures confirmed { IfOk result (λ f. AreConfirmed (guest_of_script guest.now.scripted)
+        guest.now.ranges.now guest.now.keeps f.confirmed.endings.items
+        f.confirmed.executions.items) }
+    ensures all { IfOk result (λ f. f.others ≡ Absent →
+        HasAll (guest_of_script guest.now.scripted) guest.now.ranges.now settings.now.steps
+        f.confirmed.endings.items) }
+{
+    let searched = searched_guest(guest.alloc, image, guest.scripted.input, settings)?;
+    let see = searched_ranges(guest.alloc, guest.ranges)?;
+    let proposals = proposals_of(guest, &searched, &see, settings.nodes, observer)?;
+    let Proposals {
+        nodes,
+        confirmed,
+        why,
+    } = proposals;
+    let others = others_than(guest, settings.steps, &confirmed.endings, why);
+    Ok(Findings {
+        nodes,
+        confirmed,
+        others,
+    })
+}
+
+/// What a search proposes, as far as the judge of endings allows it.
+#[derive(Drop)]
+struct Proposals {
+    nodes: u64,
+    confirmed: Confirmed,
+    /// Why there may be other endings.
+    why: Option<Why>,
+}
+
+fn proposals_of<O: EndingsObserver>(
+    guest: &Guest<'_>,
+    searched: &SearchedGuest,
+    see: &[Range],
+    nodes: u32,
+    observer: &mut O,
+) -> Result<Proposals, OutOfMemory>
+    ensures { IfOk result (λ p. AreConfirmed (guest_of_script guest.now.scripted)
+        guest.now.ranges.now guest.now.keeps p.confirmed.endings.items
+        p.confirmed.executions.items) }
+{
+    let limits = Limits {
+        nodes: u64::from(nodes),
+        keeps_nodes: false,
+    };
+    let mut search = Search::new(guest.alloc, searched, see, limits)?;
+    let why = search_through(&mut search, observer)?;
+    let confirmed = confirm_all(guest, &search)?;
+    Ok(Proposals {
+        nodes: search.count_nodes(),
+        why: if confirmed.refused != 0 {
+            why.or(Some(Why::Unchecked))
+        } else {
+            why
+        },
+        confirmed,
+    })
+}
+
+/// The endings of a search that the judge allows. Where harts ask for the number of the round, one that waits may have its end by that.
+fn confirm_all(guest: &Guest<'_>, search: &Search<'_>) -> Result<Confirmed, OutOfMemory>
+    ensures { IfOk result (λ c. AreConfirmed (guest_of_script guest.now.scripted)
+        guest.now.ranges.now guest.now.keeps c.endings.items c.executions.items) }
+{
+    let asks_round = search.omissions().contains(&Omission::RoundCall);
+    let mut confirmed = Confirmed::none(guest.alloc);
+    for found in search.endings().values() {
+        if !asks_round || !has_waiting(found) {
+            confirmed.add(guest, found)?;
+        }
+    }
+    Ok(confirmed)
+}

@@ -1,0 +1,15 @@
+//! The finder of all endings of a guest program: a search proposes endings, each with an execution, and the judge of endings says which of
+//! them RVWMO allows.
+#![tactic(auto)]
+
+mod confirming;
+mod finding;
+mod guest;
+mod judging;
+mod others;
+mod searching;
+mod settings;
+
+pub use finding::{FoundEndings, find_endings};
+pub use searching::{EndingsObserver, UnobservedEndings};
+pub use settings::EndingsSettings;

@@ -1,0 +1,14 @@
+//! Tables of all endings that a guest program can have: what they say, and their text.
+#![tactic(auto)]
+
+mod found_ending;
+mod hart_end;
+mod others;
+mod table;
+mod writing;
+
+pub use found_ending::FoundEnding;
+pub use hart_end::HartEnd;
+pub use others::{Others, Why};
+pub use table::EndingsTable;
+pub use writing::write_endings;
