@@ -41,6 +41,12 @@ early and stores early or late, in place of plans. The first line ends in
 execution. There, 'running' says that the limit of rounds was reached, or that
 of --steps, which counts those of all harts.
 
+--spurious lets pthread_cond_wait of guest/pthreads return without a signal, as
+POSIX does, in about one round of sixteen: which ones these are differs from
+plan to plan. A 'while' around the wait never fails for that, and an 'if' is
+found. The program is that of IMAGE, but that its object dethart_spurious holds
+1. A signal that is lost isn't found so: hunt without --spurious, too.
+
 --until bad ends the hunt with the first plan by which a hart runs on, was
 stopped by a fault or exited with another value than 0, and --until differ with
 the first whose ending is another than that of plan FIRST. With --seconds N no
@@ -98,7 +104,7 @@ Example:
   dethart merge first.txt second.txt
 
 Each TABLE is what dethart hunt or dethart merge printed, of one program with
-the same options. They may be given in any order; the plans of each have to go
+the same options: tables of different programs are refused. They may be given in any order; the plans of each have to go
 on where those of another one end. What is printed is the table of one hunt over
 all these plans. Standard error has for each ending the line that runs the
 program so, with IMAGE for its file, and says where a hart loops or runs on.
@@ -108,6 +114,30 @@ dethart run --help lists what each N means.
 
 Exit status: 1 a refusal, 2 a bad command line. Where the table was printed, 0
 or, as --fail-on says, 4: dethart hunt --help has the words.";
+
+/// What `compare` does.
+pub static COMPARE_ABOUT: &str = "Tells which endings only one of two tables has.";
+
+/// What `compare --help` says after the options.
+pub static COMPARE_AFTER_HELP: &str = "\
+Example:
+  dethart hunt old.elf --harts 2 --see-object sum > old.txt
+  dethart hunt new.elf --harts 2 --see-object sum > new.txt
+  dethart compare old.txt new.txt
+
+OLD and NEW are what dethart hunt or dethart merge printed, of as many harts and
+with the same bytes seen; their programs can be two builds. Printed are:
+  lost ending K ..    ending K of OLD, which NEW hasn't, as OLD has it
+  new ending K ..     ending K of NEW, which OLD hasn't, as NEW has it
+  share ending K plans P of N new ending L plans Q of M
+                      an ending of both, with another share of the plans
+  end                 that is all
+
+A refusal is the line 'error N' on standard error, with the exit status 1;
+dethart run --help lists what each N means.
+
+Exit status: 0 both have the same endings, 1 a refusal, 2 a bad command line,
+4 an ending is lost or new.";
 
 /// What `plan` does.
 pub static PLAN_ABOUT: &str = "Prints plan N of the family that the seed stands for.";

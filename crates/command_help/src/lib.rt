@@ -1,6 +1,7 @@
 //! The texts of `--help` of `dethart` and of each of its subcommands.
 #![tactic(auto)]
 
+mod endings;
 mod executions;
 mod families;
 mod fences;
@@ -8,10 +9,11 @@ mod overview;
 mod recordings;
 mod runs;
 
+pub use endings::{ALL_ABOUT, ALL_AFTER_HELP};
 pub use executions::{CHECK_ABOUT, CHECK_AFTER_HELP, EXECUTION_ABOUT, EXECUTION_AFTER_HELP};
 pub use families::{
-    HUNT_ABOUT, HUNT_AFTER_HELP, MERGE_ABOUT, MERGE_AFTER_HELP, PLAN_ABOUT, PLAN_AFTER_HELP,
-    SHRINK_ABOUT, SHRINK_AFTER_HELP,
+    COMPARE_ABOUT, COMPARE_AFTER_HELP, HUNT_ABOUT, HUNT_AFTER_HELP, MERGE_ABOUT, MERGE_AFTER_HELP,
+    PLAN_ABOUT, PLAN_AFTER_HELP, SHRINK_ABOUT, SHRINK_AFTER_HELP,
 };
 pub use fences::{FENCES_ABOUT, FENCES_AFTER_HELP};
 pub use overview::{ABOUT, AFTER_HELP};

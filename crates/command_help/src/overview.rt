@@ -17,7 +17,9 @@ Examples:
   dethart hunt guest.elf --harts 4 > table.txt
   dethart shrink guest.elf --harts 4 --plan-number 35
   dethart merge table.txt next.txt
+  dethart compare old.txt new.txt
   dethart fences guest.elf --harts 4
+  dethart all guest.elf --harts 2
   dethart plan 35 --harts 4
   dethart draw guest.elf --harts 4 --to 8 > run.svg
   dethart trace guest.elf --harts 4 --as perfetto > run.json
@@ -36,4 +38,6 @@ or dethart check an execution that is none or that RVWMO doesn't allow, 4
 dethart hunt or merge found more endings than one, or one in which a hart
 didn't exit with value 0 (--fail-on says when else), or dethart run --strict
 found such a hart, or dethart fences found a fault that no fence mends,
-or harts that run on, 5 dethart fences found a missing fence.";
+or harts that run on, or dethart compare an ending that one table alone has,
+or dethart all a bad ending, 5 dethart fences found a missing fence, 6 dethart
+all found no bad ending, but there may be others.";

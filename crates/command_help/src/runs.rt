@@ -76,6 +76,8 @@ A refusal is the line 'error N' on standard error, with the exit status 1:
   75  the image has no symbol of an object of that name, or has several
   76  a line of the file of --accept isn't two places
   77  --as-if-fence names no instruction, or has the name of several functions
+  78  the tables are of different programs
+  79  --spurious: the image has no object dethart_spurious
   81  execution: the file doesn't begin as one
   82  execution: another version than 1
   83  execution: it ends before its parts do

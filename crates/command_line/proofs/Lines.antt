@@ -1,21 +1,21 @@
 -- A line that clap takes has met a subcommand of `dethart`.
-use Rattle.std.proofs.Common.{◌≡◌, ◌⊎◌, inl, inr, cond, Bool, true, false, true≢false, refl, sym, ap, ◌∙◌, List, [], ◌∷◌, Option, Some, None, is_some, option_map, unwrap_or}
+use Rattle.std.proofs.Common.{◌≡◌, ◌⊎◌, ◌&&◌, inl, inr, cond, Bool, true, false, true≢false, refl, sym, ap, ◌∙◌, List, [], ◌∷◌, Option, Some, None, is_some, option_map, unwrap_or}
 use Rattle.std.specs.Prelude.{find}
 use Rattle.clap.specs.Simple.{Shape, argument_words, built, entered, is_simple, label_of, names_of, rows_at}
 use Rattle.clap.specs.Faults.{check_fault, defaults_fault, entered_fault, fault_of, is_simple_and_free, settle_fault, walk_fault}
 use Rattle.clap.specs.Kinds.{HasKind, Kinds, or_else}
 use Rattle.clap.specs.declared.error.Error.{Error}
 use Rattle.clap.specs.Walk.{answers_to, finished, nothing_held, rows_after, settled, walk, walk_from}
-use Rattle.clap.specs.Words.{Row, Text, subcommand_of}
-use Rattle.command_options.specs.Options.{dethart_app}
+use Rattle.clap.specs.Words.{App, Row, Text, subcommand_of}
+use Rattle.command_options.specs.Options.{IsSubcommand, dethart_app}
 use Rattle.command_line.specs.Faults.{line_fault, word_fault}
-use Rattle.command_line.specs.Reading.{IsSubcommand}
 
-pub simple : is_simple dethart_app ≡ true
-simple = refl
+first_true : (a b : Bool) → (a && b) ≡ true → a ≡ true
+first_true true b e = refl
+first_true false b e = e
 
-pub simple_and_free : is_simple_and_free dethart_app ≡ true
-simple_and_free = refl
+pub simple : (app : App) → is_simple_and_free app ≡ true → is_simple app ≡ true
+simple app both = first_true (is_simple app) _ both
 
 second_empty : (a b : Kinds) → or_else a b ≡ [] → b ≡ []
 second_empty [] b e = e
@@ -83,8 +83,10 @@ is_known name (inr (inr (inr (inr (inr (inr (inr (inr (inr (inr (inr (inl e)))))
 is_known name (inr (inr (inr (inr (inr (inr (inr (inr (inr (inr (inr (inr (inl e))))))))))))) = inr (inr (inr (inr (inr (inr (inr (inr (inr (inr (inr (inr (inl e))))))))))))
 is_known name (inr (inr (inr (inr (inr (inr (inr (inr (inr (inr (inr (inr (inr (inl e)))))))))))))) = inr (inr (inr (inr (inr (inr (inr (inr (inr (inr (inr (inr (inr (inl e)))))))))))))
 is_known name (inr (inr (inr (inr (inr (inr (inr (inr (inr (inr (inr (inr (inr (inr (inl e))))))))))))))) = inr (inr (inr (inr (inr (inr (inr (inr (inr (inr (inr (inr (inr (inr (inl e))))))))))))))
-is_known name (inr (inr (inr (inr (inr (inr (inr (inr (inr (inr (inr (inr (inr (inr (inr (inl e)))))))))))))))) = inr (inr (inr (inr (inr (inr (inr (inr (inr (inr (inr (inr (inr (inr (inr e))))))))))))))
-is_known name (inr (inr (inr (inr (inr (inr (inr (inr (inr (inr (inr (inr (inr (inr (inr (inr e)))))))))))))))) = absurd e
+is_known name (inr (inr (inr (inr (inr (inr (inr (inr (inr (inr (inr (inr (inr (inr (inr (inl e)))))))))))))))) = inr (inr (inr (inr (inr (inr (inr (inr (inr (inr (inr (inr (inr (inr (inr (inl e)))))))))))))))
+is_known name (inr (inr (inr (inr (inr (inr (inr (inr (inr (inr (inr (inr (inr (inr (inr (inr (inl e))))))))))))))))) = inr (inr (inr (inr (inr (inr (inr (inr (inr (inr (inr (inr (inr (inr (inr (inr (inl e))))))))))))))))
+is_known name (inr (inr (inr (inr (inr (inr (inr (inr (inr (inr (inr (inr (inr (inr (inr (inr (inr (inl e)))))))))))))))))) = inr (inr (inr (inr (inr (inr (inr (inr (inr (inr (inr (inr (inr (inr (inr (inr (inr e))))))))))))))))
+is_known name (inr (inr (inr (inr (inr (inr (inr (inr (inr (inr (inr (inr (inr (inr (inr (inr (inr (inr e)))))))))))))))))) = absurd e
 
 -- an error of clap's is one of the line's
 pub kept_first : (e : Error) (a b : Kinds) → HasKind a e → HasKind (or_else a b) e

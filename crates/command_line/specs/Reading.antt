@@ -9,7 +9,9 @@ use Rattle.std.specs.Str.Parse.{digits_value, without_leading_plus}
 use Rattle.clap.specs.Words.{Row, Text, all_of, first_of, one_of}
 use Rattle.command_line.specs.declared.settings.Command.{Command}
 use Rattle.command_line.specs.declared.settings.Command.TheVariants as command
+use Rattle.command_line.specs.declared.settings.AllEndings.{AllEndings}
 use Rattle.command_line.specs.declared.settings.Bytes.{Bytes}
+use Rattle.command_line.specs.declared.settings.Compare.{Compare}
 use Rattle.command_line.specs.declared.settings.Draw.{Draw}
 use Rattle.command_line.specs.declared.settings.Execution.{Execution}
 use Rattle.command_line.specs.declared.settings.FailOn.{FailOn}
@@ -164,6 +166,7 @@ HoldsFlag text flag = (text ≡ Some (codes "true") → flag ≡ true)
 pub record HoldsProgram (default_rounds : ℕ) (rows : List Row) (program : Program) : Type 0 where
   pub image : program.image.now ≡ unwrap_or (first_of (codes "image") rows) []
   pub flat : HoldsFlag (one_of (codes "flat") rows) program.flat
+  pub spurious : HoldsFlag (one_of (codes "spurious") rows) program.spurious
   pub harts : program.harts ≡ number_or 1 (one_of (codes "harts") rows)
   pub pages : program.pages ≡ number_or 256 (one_of (codes "pages") rows)
   pub rounds : program.rounds ≡ number_or default_rounds (one_of (codes "rounds") rows)
@@ -271,6 +274,13 @@ pub record HoldsFences (rows : List Row) (fences : Fences) : Type 0 where
   pub accept : option_map (λ s. s.now) fences.accept ≡ first_of (codes "accept") rows
   pub as_if_fence : map (λ s. s.now) fences.as_if_fence.items ≡ texts_given (codes "as-if-fence") rows
 
+pub record HoldsAll (rows : List Row) (all : AllEndings) : Type 0 where
+  pub search : HoldsSearch rows all.search
+  pub steps : all.steps ≡ number_or 1000 (one_of (codes "steps") rows)
+  pub nodes : all.nodes ≡ number_or 100000 (one_of (codes "nodes") rows)
+  pub seconds : all.seconds ≡ number_given 32 (one_of (codes "seconds") rows)
+  pub keep : option_map (λ s. s.now) all.keep ≡ first_of (codes "keep") rows
+
 pub record HoldsShrink (rows : List Row) (shrink : Shrink) : Type 0 where
   pub search : HoldsSearch rows shrink.search
   pub plan_number : shrink.plan_number ≡ number_or 0 (one_of (codes "plan-number") rows)
@@ -278,6 +288,10 @@ pub record HoldsShrink (rows : List Row) (shrink : Shrink) : Type 0 where
 pub record HoldsMerge (rows : List Row) (merge : Merge) : Type 0 where
   pub tables : map (λ s. s.now) merge.tables.items ≡ texts_given (codes "table") rows
   pub fail_on : merge.fail_on ≡ unwrap_or (fail_on_given rows) fail_on.Either
+
+pub record HoldsCompare (rows : List Row) (compare : Compare) : Type 0 where
+  pub old : compare.old.now ≡ unwrap_or (first_of (codes "old") rows) []
+  pub new : compare.new.now ≡ unwrap_or (first_of (codes "new") rows) []
 
 pub record HoldsPlan (rows : List Row) (plan : Plan) : Type 0 where
   pub number : plan.number ≡ number_or 0 (one_of (codes "number") rows)
@@ -312,6 +326,8 @@ HoldsNamed name rows (command.Hunt hunt) = (name ≡ codes "hunt") × HoldsHunt 
 HoldsNamed name rows (command.Shrink shrink) = (name ≡ codes "shrink") × HoldsShrink rows shrink
 HoldsNamed name rows (command.Merge merge) = (name ≡ codes "merge") × HoldsMerge rows merge
 HoldsNamed name rows (command.Fences fences) = (name ≡ codes "fences") × HoldsFences rows fences
+HoldsNamed name rows (command.All all) = (name ≡ codes "all") × HoldsAll rows all
+HoldsNamed name rows (command.Compare compare) = (name ≡ codes "compare") × HoldsCompare rows compare
 HoldsNamed name rows (command.Plan plan) = (name ≡ codes "plan") × HoldsPlan rows plan
 HoldsNamed name rows (command.Draw draw) = (name ≡ codes "draw") × HoldsDraw rows draw
 HoldsNamed name rows (command.Trace run) = (name ≡ codes "trace") × HoldsRun rows run
@@ -322,10 +338,3 @@ HoldsNamed name rows (command.Check check) = (name ≡ codes "check") × HoldsCh
 abbrev pub HoldsLine : Option (Text × List Row) → Command → Type 0
 HoldsLine None line = ⊥
 HoldsLine (Some met) line = HoldsNamed met.0 met.1 line
-
--- the name is that of a subcommand
-abbrev pub IsSubcommand : Text → Type 0
-IsSubcommand name = (name ≡ codes "run") ⊎ (name ≡ codes "order") ⊎ (name ≡ codes "record")
-    ⊎ (name ≡ codes "replay") ⊎ (name ≡ codes "watch") ⊎ (name ≡ codes "migrate") ⊎ (name ≡ codes "gdb")
-    ⊎ (name ≡ codes "hunt") ⊎ (name ≡ codes "shrink") ⊎ (name ≡ codes "merge") ⊎ (name ≡ codes "fences")
-    ⊎ (name ≡ codes "plan") ⊎ (name ≡ codes "draw") ⊎ (name ≡ codes "trace") ⊎ (name ≡ codes "execution") ⊎ (name ≡ codes "check")

@@ -1,7 +1,7 @@
 //! What the matches of the subcommands that go over plans of a family say.
 ghost use Rattle.std.specs.Prelude.{◌≡◌, IfOk, unwrap_or};
 ghost use Rattle.clap.specs.Words.{found_of, rows_of};
-ghost use Rattle.command_line.specs.Reading.{HoldsHunt, HoldsMerge, HoldsPlan, HoldsSearch, HoldsShrink, fail_on_given, fail_on_in, until_given, until_in};
+ghost use Rattle.command_line.specs.Reading.{HoldsCompare, HoldsHunt, HoldsMerge, HoldsPlan, HoldsSearch, HoldsShrink, fail_on_given, fail_on_in, until_given, until_in};
 ghost use Rattle.command_line.specs.Faults.{has_bad_until};
 ghost use Rattle.command_line.specs.declared.settings.FailOn.TheVariants as fail_on;
 
@@ -9,11 +9,11 @@ use crate::given::is_set;
 use crate::numbers::{number_given, number_of, wide_number_of};
 use crate::runs::program_of;
 use crate::seen::{seen_of, texts_of};
-use crate::settings::{FailOn, Hunt, HuntUntil, Merge, Plan, Search, Shrink};
+use crate::settings::{Compare, FailOn, Hunt, HuntUntil, Merge, Plan, Search, Shrink};
 use clap::ArgMatches;
 use std::alloc::{AllocError, Global};
 
-/// What the matches of `hunt`, `shrink` and `fences` say of the runs.
+/// What the matches of `hunt`, `shrink`, `fences` and `all` say of the runs.
 pub(crate) fn search_of<'a>(
     alloc: Global,
     matches: &ArgMatches<'a>,
@@ -135,6 +135,16 @@ pub(crate) fn merge_of<'a>(alloc: Global, matches: &ArgMatches<'a>) -> Result<Me
     let tables = texts_of(alloc, matches, "table")?;
     let fail_on = fail_on_of(matches);
     Ok(Merge { tables, fail_on })
+}
+
+/// What the matches of `compare` say.
+pub(crate) fn compare_of<'a>(matches: &ArgMatches<'a>) -> Compare<'a>
+    ensures { HoldsCompare (rows_of (found_of matches.now)) result }
+{
+    Compare {
+        old: matches.get_str("old").unwrap_or(""),
+        new: matches.get_str("new").unwrap_or(""),
+    }
 }
 
 /// What the matches of `plan` say.

@@ -3,6 +3,7 @@
 
 mod asking;
 mod contradictions;
+mod endings;
 mod families;
 mod fences;
 mod given;
@@ -11,12 +12,14 @@ mod parsing;
 mod runs;
 mod seen;
 mod settings;
+mod usages;
 
 pub use asking::asked_by_options;
 pub use numbers::address_in;
 pub use parsing::parse_line;
 pub use settings::{
-    Bytes, Check, Command, Draw, Execution, FailOn, Fences, FencesFailOn, Gdb, Hunt, HuntUntil,
-    Merge, Migrate, Plan, PlanChoice, Print, Program, Record, Replay, Run, Search, Shown, Shrink,
-    Watch,
+    AllEndings, Bytes, Check, Command, Compare, Draw, Execution, FailOn, Fences, FencesFailOn, Gdb,
+    Hunt, HuntUntil, Merge, Migrate, Plan, PlanChoice, Print, Program, Record, Replay, Run, Search,
+    Shown, Shrink, Watch,
 };
+pub use usages::with_usage;

@@ -1,12 +1,13 @@
 //! What the words of a command line say.
 ghost use Rattle.std.specs.Prelude.{◌≡◌, IfOk, Some, is_some, map};
 ghost use Rattle.clap.specs.Words.{FailsBy, found_of, kind_of, rows_of, subcommand_of};
-ghost use Rattle.command_options.specs.Options.{dethart_app};
+ghost use Rattle.command_options.specs.Options.{IsSubcommand, dethart_app};
 ghost use Rattle.command_line.specs.Faults.{has_bad_address, has_bad_word, has_no_bytes, line_fault, names_no_bytes, word_fault};
-ghost use Rattle.command_line.specs.Reading.{HoldsCheck, HoldsGdb, HoldsLine, HoldsMigrate, HoldsNamed, HoldsReplay, HoldsWatch, IsSubcommand, address_given, address_is_decimal, asks_of_a_hart, is_unread};
+ghost use Rattle.command_line.specs.Reading.{HoldsCheck, HoldsGdb, HoldsLine, HoldsMigrate, HoldsNamed, HoldsReplay, HoldsWatch, address_given, address_is_decimal, asks_of_a_hart, is_unread};
 
 use crate::contradictions::contradiction;
-use crate::families::{has_bad_until, hunt_of, merge_of, plan_of, shrink_of};
+use crate::endings::all_of;
+use crate::families::{compare_of, has_bad_until, hunt_of, merge_of, plan_of, shrink_of};
 use crate::fences::{fences_of, has_bad_fail_on};
 use crate::given::{is_given, is_set};
 use crate::numbers::{address_in, is_decimal, number_given, number_of, wide_given, wide_number_of};
@@ -15,7 +16,7 @@ use crate::seen::{has_bad_bytes, seen_of, texts_of};
 use crate::settings::{Check, Command, Gdb, Migrate, Replay, Watch};
 use clap::error::ErrorKind;
 use clap::{ArgMatches, Error};
-use command_options::{dethart_command, subcommand_named};
+use command_options::{command_for, subcommand_named};
 use std::alloc::{AllocError, Global};
 
 /// What is said of an ADDRESS that is none.
@@ -54,7 +55,7 @@ pub fn parse_line<'a>(alloc: Global, words: &'a [&'a str]) -> Result<Command<'a>
         s.now) words.entry.now))) }
     ensures fails { FailsBy (line_fault (map (λ s. s.now) words.entry.now)) result }
 {
-    let mut command = dethart_command(alloc)?;
+    let mut command = command_for(alloc, words)?;
     let matches = command.try_get_matches_from_mut(words)?;
     // `clap` refuses a line without a subcommand.
     let Some((name, found)) = matches.subcommand() else {
@@ -83,11 +84,11 @@ fn subcommand_of<'a>(
 }
 
 /// An error of a line of the subcommand of this name, with the usage of that.
-fn error_of(
+pub(crate) fn error_of(
     alloc: Global,
     name: &str,
     kind: ErrorKind,
-    text: &'static str,
+    text: &str,
 ) -> Result<Error, AllocError>
     ensures { IfOk result (λ error. kind_of error ≡ kind) }
 {
@@ -117,6 +118,8 @@ fn command_of<'a>(
         "shrink" => Command::Shrink(shrink_of(alloc, matches)?),
         "merge" => Command::Merge(merge_of(alloc, matches)?),
         "fences" => Command::Fences(fences_of(alloc, matches)?),
+        "all" => Command::All(all_of(alloc, matches)?),
+        "compare" => Command::Compare(compare_of(matches)),
         "plan" => Command::Plan(plan_of(matches)),
         "draw" => Command::Draw(draw_of(alloc, matches)?),
         "trace" => Command::Trace(run_of(matches)),

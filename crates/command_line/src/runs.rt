@@ -18,6 +18,7 @@ pub(crate) fn program_of<'a>(matches: &ArgMatches<'a>, default_rounds: u32) -> P
     Program {
         image: matches.get_str("image").unwrap_or(""),
         flat: matches.get_flag("flat"),
+        spurious: matches.get_flag("spurious"),
         harts: number_of(matches, "harts", 1),
         pages: number_of(matches, "pages", 256),
         rounds: number_of(matches, "rounds", default_rounds),

@@ -23,6 +23,10 @@ pub enum Command<'a> {
     Merge(Merge<'a>),
     /// `fences IMAGE`: look for missing fences.
     Fences(Fences<'a>),
+    /// `all IMAGE`: search for all endings.
+    All(AllEndings<'a>),
+    /// `compare OLD NEW`: compare the tables of two hunts.
+    Compare(Compare<'a>),
     /// `plan N`: print a plan of the family.
     Plan(Plan),
     /// `draw IMAGE`: run a guest program, and draw the run.
@@ -42,6 +46,8 @@ pub struct Program<'a> {
     pub image: &'a str,
     /// The image is a flat file, and not an ELF file.
     pub flat: bool,
+    /// The image's object `dethart_spurious` holds 1, by which waits for a condition may return without a signal.
+    pub spurious: bool,
     /// The number of harts.
     pub harts: u32,
     /// The size of guest memory, in pages of 4096 bytes.
@@ -233,7 +239,7 @@ pub struct Bytes {
     pub is_decimal: bool,
 }
 
-/// Runs of a program by plans of a family: a part of the words after `hunt`, `shrink` and `fences`.
+/// Runs of a program by plans of a family: a part of the words after `hunt`, `shrink`, `fences` and `all`.
 #[derive(Drop)]
 pub struct Search<'a> {
     /// The program that is run.
@@ -319,6 +325,21 @@ pub struct Fences<'a> {
     pub as_if_fence: Vec<&'a str>,
 }
 
+/// The words after `all`.
+#[derive(Drop)]
+pub struct AllEndings<'a> {
+    /// The guest, and what tells its endings apart. Rounds, workers and a seed can't be given.
+    pub search: Search<'a>,
+    /// How many instructions of a hart are followed.
+    pub steps: u32,
+    /// How many nodes are gone through.
+    pub nodes: u32,
+    /// For how many seconds is searched, where there is such a limit.
+    pub seconds: Option<u32>,
+    /// The path of the folder that an execution of each ending is written to; none is written where there is none.
+    pub keep: Option<&'a str>,
+}
+
 /// The words after `shrink`.
 #[derive(Drop)]
 pub struct Shrink<'a> {
@@ -335,6 +356,15 @@ pub struct Merge<'a> {
     pub tables: Vec<&'a str>,
     /// Which tables give another exit status.
     pub fail_on: FailOn,
+}
+
+/// The words after `compare`.
+#[derive(Clone, Copy, Drop)]
+pub struct Compare<'a> {
+    /// The path of the old build's table.
+    pub old: &'a str,
+    /// The path of the new build's table.
+    pub new: &'a str,
 }
 
 /// The words after `plan`.

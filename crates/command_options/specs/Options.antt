@@ -1,7 +1,7 @@
 -- The command line, as a command of clap.
-use Rattle.std.specs.Prelude.{List, [], ◌∷◌, Some, true, codes, fold, if◌then◌else◌, pos}
+use Rattle.std.specs.Prelude.{◌≡◌, ◌⊎◌, List, [], ◌∷◌, Some, true, codes, fold, if◌then◌else◌, pos}
 use Rattle.std.specs.Str.{bytes_eq}
-use Rattle.clap.specs.Words.{App, Rule, Text, new_app, new_rule, with_rule, with_subcommand}
+use Rattle.clap.specs.Words.{App, Rule, Text, fault_of, is_simple_and_free, new_app, new_rule, subcommand_of, with_rule, with_subcommand}
 use Rattle.clap.specs.declared.builder.action.ArgAction.TheVariants.{Append, SetTrue}
 use Rattle.clap.specs.declared.builder.value_parser.ValueParser.{ValueParser}
 use Rattle.clap.specs.declared.builder.value_parser.ValueParser.TheVariants as parser
@@ -82,11 +82,12 @@ repeated_rule name = record (text_rule name) { action = Some Append }
 abbrev pub object_rule : Rule
 object_rule = repeated_rule (codes "see-object")
 
--- a guest program, and the size of its machine, with this rule for the number of harts
+-- a guest program, how it is read, and the size of its machine, with this rule for the number of harts
 abbrev pub guest_rules : Rule → List Rule
 guest_rules harts =
     positional_rule (codes "image")
     ∷ flag_rule (codes "flat")
+    ∷ flag_rule (codes "spurious")
     ∷ harts
     ∷ number_rule (codes "pages") (codes "256")
     ∷ []
@@ -174,6 +175,20 @@ fence_rules =
     ∷ repeated_rule (codes "as-if-fence")
     ∷ []
 
+-- what a guest reads whose endings are searched for, whether it is told how far that is, which bytes tell endings apart, how far the search
+-- goes, and where the executions go
+abbrev pub all_rules : List Rule
+all_rules =
+    text_rule (codes "input")
+    ∷ flag_rule (codes "progress")
+    ∷ see_rule
+    ∷ object_rule
+    ∷ number_rule (codes "steps") (codes "1000")
+    ∷ number_rule (codes "nodes") (codes "100000")
+    ∷ number_given_rule (codes "seconds")
+    ∷ text_rule (codes "keep")
+    ∷ []
+
 -- the numbers are of executions in which loads come early and stores late, of so many steps at most
 abbrev pub weak_rules : List Rule
 weak_rules = flag_rule (codes "weak") ∷ number_given_rule (codes "steps") ∷ []
@@ -185,6 +200,10 @@ shrink_rules = number_wanted_rule (codes "plan-number") ∷ []
 -- what `merge` takes
 abbrev pub merge_rules : List Rule
 merge_rules = several_rule (codes "table") ∷ fail_on_rule ∷ []
+
+-- what `compare` takes
+abbrev pub compare_rules : List Rule
+compare_rules = positional_rule (codes "old") ∷ positional_rule (codes "new") ∷ []
 
 -- what `plan` takes
 abbrev pub family_rules : List Rule
@@ -307,6 +326,12 @@ merge_app = taking (codes "merge") merge_rules
 abbrev pub fences_app : App
 fences_app = with_rules (searching (codes "fences")) fence_rules
 
+abbrev pub all_app : App
+all_app = with_rules (taking (codes "all") (guest_rules harts_wanted)) all_rules
+
+abbrev pub compare_app : App
+compare_app = taking (codes "compare") compare_rules
+
 abbrev pub plan_app : App
 plan_app = taking (codes "plan") family_rules
 
@@ -343,11 +368,11 @@ recording_commands = replay_app ∷ watch_app ∷ migrate_app ∷ gdb_app ∷ []
 
 -- those that hunt
 abbrev pub hunting_commands : List App
-hunting_commands = hunt_app ∷ shrink_app ∷ merge_app ∷ fences_app ∷ []
+hunting_commands = hunt_app ∷ shrink_app ∷ merge_app ∷ fences_app ∷ all_app ∷ []
 
 -- the others
 abbrev pub other_commands : List App
-other_commands = plan_app ∷ draw_app ∷ trace_app ∷ []
+other_commands = compare_app ∷ plan_app ∷ draw_app ∷ trace_app ∷ []
 
 -- those of executions
 abbrev pub execution_commands : List App
@@ -366,6 +391,8 @@ named_app name = if bytes_eq name (codes "run") then run_app
     else if bytes_eq name (codes "shrink") then shrink_app
     else if bytes_eq name (codes "merge") then merge_app
     else if bytes_eq name (codes "fences") then fences_app
+    else if bytes_eq name (codes "all") then all_app
+    else if bytes_eq name (codes "compare") then compare_app
     else if bytes_eq name (codes "plan") then plan_app
     else if bytes_eq name (codes "draw") then draw_app
     else if bytes_eq name (codes "trace") then trace_app
@@ -384,3 +411,17 @@ with_other_commands = with_commands (with_commands with_recording_commands hunti
 
 abbrev pub dethart_app : App
 dethart_app = with_commands with_other_commands execution_commands
+
+-- the subcommands by their names
+abbrev pub IsSubcommand : Text → Type 0
+IsSubcommand name = (name ≡ codes "run") ⊎ (name ≡ codes "order") ⊎ (name ≡ codes "record")
+    ⊎ (name ≡ codes "replay") ⊎ (name ≡ codes "watch") ⊎ (name ≡ codes "migrate") ⊎ (name ≡ codes "gdb")
+    ⊎ (name ≡ codes "hunt") ⊎ (name ≡ codes "shrink") ⊎ (name ≡ codes "merge") ⊎ (name ≡ codes "fences")
+    ⊎ (name ≡ codes "all") ⊎ (name ≡ codes "compare") ⊎ (name ≡ codes "plan") ⊎ (name ≡ codes "draw")
+    ⊎ (name ≡ codes "trace") ⊎ (name ≡ codes "execution") ⊎ (name ≡ codes "check")
+
+-- by this command clap reads a line as by the one with all subcommands: the same words of the same subcommand, or the same kinds of error
+pub record ReadsAsAll (words : List Text) (app : App) : Type 0 where
+  pub simple : is_simple_and_free app ≡ true
+  pub subcommand : subcommand_of app words ≡ subcommand_of dethart_app words
+  pub fault : fault_of app words ≡ fault_of dethart_app words

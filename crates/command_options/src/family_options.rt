@@ -2,7 +2,7 @@
 ghost use Rattle.std.specs.Prelude.{◌≡◌, IfOk, false};
 ghost use Rattle.clap.specs.Words.{app_of};
 ghost use Rattle.clap.specs.declared.builder.command.Command.TheViews.{out-Command};
-ghost use Rattle.command_options.specs.Options.{fences_app, hunt_app, merge_app, plan_app, searching, shrink_app};
+ghost use Rattle.command_options.specs.Options.{compare_app, fences_app, hunt_app, merge_app, plan_app, searching, shrink_app};
 
 use crate::arguments::{
     Argument, HARTS, NARROW, PROGRESS, SAME_OF_OBJECT, SEED, STEPS, WEAK, WORKERS, with_arguments,
@@ -10,13 +10,17 @@ use crate::arguments::{
 use crate::program_options::{INPUT, guest_command, named_command};
 use clap::Command;
 use command_help::{
-    FENCES_ABOUT, FENCES_AFTER_HELP, HUNT_ABOUT, HUNT_AFTER_HELP, MERGE_ABOUT, MERGE_AFTER_HELP,
-    PLAN_ABOUT, PLAN_AFTER_HELP, SHRINK_ABOUT, SHRINK_AFTER_HELP,
+    COMPARE_ABOUT, COMPARE_AFTER_HELP, FENCES_ABOUT, FENCES_AFTER_HELP, HUNT_ABOUT,
+    HUNT_AFTER_HELP, MERGE_ABOUT, MERGE_AFTER_HELP, PLAN_ABOUT, PLAN_AFTER_HELP, SHRINK_ABOUT,
+    SHRINK_AFTER_HELP,
 };
 use std::alloc::{AllocError, Global};
 
 /// The option `--harts N`, which must be there: by its default of one hart every plan would come to the same ending.
-const HARTS_WANTED: Argument<'static> = Argument::NumberWanted("harts", "Harts: 1 to 64");
+pub(crate) const HARTS_WANTED: Argument<'static> = Argument::NumberWanted(
+    "harts",
+    "Harts: 1 to 64",
+);
 
 /// What a program is run with by plans of the family, and what is seen of each run.
 static SEARCHING: [Argument<'static>; 7] = [
@@ -97,6 +101,12 @@ static MERGE: [Argument<'static>; 2] = [
     FAIL_ON,
 ];
 
+/// The tables of two hunts.
+static COMPARE: [Argument<'static>; 2] = [
+    Argument::Positional("old", "OLD", "The table of the old build"),
+    Argument::Positional("new", "NEW", "The table of the new build"),
+];
+
 /// A plan of the family, and for how many harts.
 static PLAN: [Argument<'static>; 3] = [
     Argument::NumberPositional(
@@ -143,6 +153,15 @@ pub(crate) fn merge_command<'a>(alloc: Global) -> Result<Command<'a>, AllocError
 {
     let command = named_command(alloc, "merge", MERGE_ABOUT, MERGE_AFTER_HELP);
     with_arguments(alloc, command, MERGE.as_slice())
+}
+
+/// The subcommand `compare`: the tables of two hunts.
+pub(crate) fn compare_command<'a>(alloc: Global) -> Result<Command<'a>, AllocError>
+    ensures app { IfOk result (λ command. app_of command ≡ compare_app) }
+    ensures local { IfOk result (λ command. (out-Command command).has_globals ≡ false) }
+{
+    let command = named_command(alloc, "compare", COMPARE_ABOUT, COMPARE_AFTER_HELP);
+    with_arguments(alloc, command, COMPARE.as_slice())
 }
 
 /// The subcommand `plan`: a plan of the family, and for how many harts.

@@ -2,10 +2,11 @@
 #![tactic(auto)]
 
 mod arguments;
+mod ending_options;
 mod family_options;
 mod options;
 mod program_options;
 mod recording_options;
 mod run_options;
 
-pub use options::{dethart_command, subcommand_named};
+pub use options::{command_for, subcommand_named};

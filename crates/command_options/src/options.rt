@@ -1,11 +1,12 @@
 //! The command line as `clap` is told it.
-ghost use Rattle.std.specs.Prelude.{◌≡◌, IfOk, IsOkAnd, false};
+ghost use Rattle.std.specs.Prelude.{◌≡◌, ◌↔◌, IfOk, IsOkAnd, IsTrue, [], ◌∷◌, false, map};
 ghost use Rattle.clap.specs.Words.{AddsSubcommand, app_of};
 ghost use Rattle.clap.specs.declared.builder.command.Command.TheViews.{out-Command};
-ghost use Rattle.command_options.specs.Options.{bare_app, dethart_app, hunting_commands, named_app, run_commands, with_commands, with_other_commands, with_recording_commands};
+ghost use Rattle.command_options.specs.Options.{IsSubcommand, ReadsAsAll, bare_app, dethart_app, hunting_commands, named_app, run_commands, with_commands, with_other_commands, with_recording_commands};
 
+use crate::ending_options::all_command;
 use crate::family_options::{
-    fences_command, hunt_command, merge_command, plan_command, shrink_command,
+    compare_command, fences_command, hunt_command, merge_command, plan_command, shrink_command,
 };
 use crate::program_options::named_command;
 use crate::recording_options::{gdb_command, migrate_command, replay_command, watch_command};
@@ -20,8 +21,55 @@ use std::alloc::{AllocError, Global};
 /// The version of `dethart`, and the sum of the logic that it was proved in.
 const VERSION: &str = "1.0.0 (logic dac8208d650f15bf)";
 
-/// The command `dethart` with its subcommands, as `clap` reads a line by it.
-pub fn dethart_command<'a>(alloc: Global) -> Result<Command<'a>, AllocError>
+/// The command `dethart` as `clap` reads these words by it, of which the first is the program's name.
+///
+/// It has the subcommand that the second word names, and no other: all are built only where it names none.
+pub fn command_for<'a>(alloc: Global, words: &[&str]) -> Result<Command<'a>, AllocError>
+    ensures { IfOk result (λ command. ReadsAsAll (map (λ s. s.now) words.now) (app_of command)) }
+{
+    match words {
+        [_, name, ..] if is_subcommand(name) => with_one_subcommand(alloc, name),
+        _ => dethart_command(alloc),
+    }
+}
+
+/// Whether there is a subcommand of this name.
+fn is_subcommand(name: &str) -> bool
+    ensures { IsTrue result ↔ IsSubcommand name.now }
+{
+    matches!(
+        name,
+        "run"
+            | "order"
+            | "record"
+            | "replay"
+            | "watch"
+            | "migrate"
+            | "gdb"
+            | "hunt"
+            | "shrink"
+            | "merge"
+            | "fences"
+            | "all"
+            | "compare"
+            | "plan"
+            | "draw"
+            | "trace"
+            | "execution"
+            | "check"
+    )
+}
+
+/// The command with the subcommand of this name alone.
+fn with_one_subcommand<'a>(alloc: Global, name: &str) -> Result<Command<'a>, AllocError>
+    ensures { IfOk result (λ command. app_of command ≡ with_commands bare_app (named_app name.now ∷ [])) }
+{
+    let bare = bare_command(alloc);
+    with_subcommand(Ok(bare), subcommand_named(alloc, name))
+}
+
+/// The command `dethart` with its subcommands.
+fn dethart_command<'a>(alloc: Global) -> Result<Command<'a>, AllocError>
     ensures app { IfOk result (λ command. app_of command ≡ dethart_app) }
     ensures local { IfOk result (λ command. (out-Command command).has_globals ≡ false) }
 {
@@ -32,7 +80,8 @@ pub fn dethart_command<'a>(alloc: Global) -> Result<Command<'a>, AllocError>
 
 /// The subcommand of a name alone, whose usage is told of a line that it doesn't take. There is no other than these.
 pub fn subcommand_named<'a>(alloc: Global, name: &str) -> Result<Command<'a>, AllocError>
-    ensures { IfOk result (λ command. app_of command ≡ named_app name.now) }
+    ensures app { IfOk result (λ command. app_of command ≡ named_app name.now) }
+    ensures local { IfOk result (λ command. (out-Command command).has_globals ≡ false) }
 {
     if name == "run" {
         run_command(alloc)
@@ -56,6 +105,10 @@ pub fn subcommand_named<'a>(alloc: Global, name: &str) -> Result<Command<'a>, Al
         merge_command(alloc)
     } else if name == "fences" {
         fences_command(alloc)
+    } else if name == "all" {
+        all_command(alloc)
+    } else if name == "compare" {
+        compare_command(alloc)
     } else if name == "plan" {
         plan_command(alloc)
     } else if name == "draw" {
@@ -75,7 +128,8 @@ fn with_other_commands<'a>(alloc: Global) -> Result<Command<'a>, AllocError>
     ensures local { IfOk result (λ command. (out-Command command).has_globals ≡ false) }
 {
     let hunting = with_hunting_commands(alloc);
-    let planning = with_subcommand(hunting, plan_command(alloc));
+    let comparing = with_subcommand(hunting, compare_command(alloc));
+    let planning = with_subcommand(comparing, plan_command(alloc));
     let drawing = with_subcommand(planning, draw_command(alloc));
     with_subcommand(drawing, trace_command(alloc))
 }
@@ -90,7 +144,8 @@ fn with_hunting_commands<'a>(alloc: Global) -> Result<Command<'a>, AllocError>
     let hunting = with_subcommand(recording, hunt_command(alloc));
     let shrinking = with_subcommand(hunting, shrink_command(alloc));
     let merging = with_subcommand(shrinking, merge_command(alloc));
-    with_subcommand(merging, fences_command(alloc))
+    let fencing = with_subcommand(merging, fences_command(alloc));
+    with_subcommand(fencing, all_command(alloc))
 }
 
 /// The command with the subcommands of runs and recordings.

@@ -43,6 +43,12 @@ const FLAT: Argument<'static> = Argument::Flag(
     "IMAGE is flat: bytes from address 0 on, all code",
 );
 
+/// The option `--spurious`.
+const SPURIOUS: Argument<'static> = Argument::Flag(
+    "spurious",
+    "pthread_cond_wait may return without a signal",
+);
+
 /// The option `--pages N`.
 const PAGES: Argument<'static> = Argument::Number(
     NARROW,
@@ -51,7 +57,7 @@ const PAGES: Argument<'static> = Argument::Number(
     "Pages of 4096 bytes: 1 to 16384",
 );
 
-/// A subcommand that runs a guest program: the image, and the size of its machine, whose harts are this option.
+/// A subcommand that runs a guest program: the image, how it is read, and the size of its machine, whose harts are this option.
 pub(crate) fn guest_command<'a>(
     alloc: Global,
     name: &'a str,
@@ -64,5 +70,5 @@ pub(crate) fn guest_command<'a>(
     ensures local { IfOk result (λ command. (out-Command command).has_globals ≡ false) }
 {
     let command = named_command(alloc, name, about, after_help);
-    with_arguments(alloc, command, &[IMAGE, FLAT, harts, PAGES])
+    with_arguments(alloc, command, &[IMAGE, FLAT, SPURIOUS, harts, PAGES])
 }

@@ -1,28 +1,27 @@
 use Rattle.std.proofs.Common.{rules, false, true≢false, is_some, ◌≡◌, ◌∙◌, List, [], Some, ap, sym, subst, map, option_map}
-use Rattle.clap.specs.Simple.{built, is_simple}
-use Rattle.clap.specs.Faults.{is_simple_and_free}
+use Rattle.clap.specs.Simple.{built}
 use Rattle.std.specs.Prelude.{IfOk}
-use Rattle.clap.specs.Words.{App, FailsBy, HasKind, Kinds, Row, Text, fault_of, found_of, rows_of, subcommand_name_of, subcommand_of, subcommand_rows_of}
-use Rattle.command_options.specs.Options.{dethart_app}
+use Rattle.clap.specs.Words.{FailsBy, HasKind, Kinds, Row, Text, app_of, fault_of, found_of, rows_of, subcommand_name_of, subcommand_of, subcommand_rows_of}
+use Rattle.command_options.specs.Options.{IsSubcommand, dethart_app}
 use Rattle.command_line.specs.Faults.{line_fault}
-use Rattle.command_line.specs.Reading.{HoldsLine, IsSubcommand}
-use Rattle.command_line.proofs.Lines.{Met, after_clap, is_known, kept_first, name_of, simple, simple_and_free, some_is, takes_one}
+use Rattle.command_line.specs.Reading.{HoldsLine}
+use Rattle.command_line.proofs.Lines.{Met, after_clap, is_known, kept_first, name_of, simple, some_is, takes_one}
 use Rattle.command_line.proofs.parsing.parse_line.Goals as goal
 use Rattle.command_line.proofs.parsing.parse_line.Goals.{In_ok-matches}
 
 pub returns-in_err-matches-clause-fails : goal.returns-in_err-matches-clause-fails
 returns-in_err-matches-clause-fails c =
-    let is = c.in_ok-command.ensures.app in
+    let reads = c.in_ok-command.ensures in
     let words : List Text = map (λ s. s.now) c.args.words.now in
-    let kinds = c.in_err-matches.ensures.kinds (ap is_simple_and_free is ∙ simple_and_free) in
-    let kinds_here : HasKind (line_fault words) c.in_err-matches.field-0.0 = kept_first c.in_err-matches.field-0.0 (fault_of dethart_app words) _ (subst (λ (a : App). HasKind (fault_of a words) c.in_err-matches.field-0.0) is kinds) in
+    let kinds = c.in_err-matches.ensures.kinds reads.simple in
+    let kinds_here : HasKind (line_fault words) c.in_err-matches.field-0.0 = kept_first c.in_err-matches.field-0.0 (fault_of dethart_app words) _ (subst (λ (k : Kinds). HasKind k c.in_err-matches.field-0.0) reads.fault kinds) in
     search rules
 
 -- clap found nothing to refuse
 no_fault : (c : In_ok-matches) → fault_of dethart_app (map (λ s. s.now) c.args.words.now) ≡ []
 no_fault c =
-    let is = c.in_ok-command.ensures.app in
-    ap (λ (a : App). fault_of a (map (λ s. s.now) c.args.words.now)) (sym is) ∙ c.in_ok-matches.ensures.kinds (ap is_simple_and_free is ∙ simple_and_free)
+    let reads = c.in_ok-command.ensures in
+    sym reads.fault ∙ c.in_ok-matches.ensures.kinds reads.simple
 
 -- so the line has met a subcommand
 one_met : (c : In_ok-matches) → Met (built dethart_app).subs (subcommand_of dethart_app (map (λ s. s.now) c.args.words.now))
@@ -31,8 +30,8 @@ one_met c = takes_one (map (λ s. s.now) c.args.words.now) (no_fault c)
 -- with the rows that the matches have
 rows_met : (c : In_ok-matches) → subcommand_rows_of c.in_ok-matches.matches ≡ Some ((one_met c).name, (one_met c).rows)
 rows_met c =
-    let is = c.in_ok-command.ensures.app in
-    (c.in_ok-matches.ensures.ok.2 (ap is_simple is ∙ simple)).1 ∙ (ap (λ (a : App). subcommand_of a (map (λ s. s.now) c.args.words.now)) is ∙ (one_met c).is)
+    let reads = c.in_ok-command.ensures in
+    (c.in_ok-matches.ensures.ok.2 (simple (app_of c.in_ok-command.command) reads.simple)).1 ∙ (reads.subcommand ∙ (one_met c).is)
 
 pub unreachable-requires : goal.unreachable-requires
 unreachable-requires c =
