@@ -1,5 +1,5 @@
 -- The run that the settings of a recording's run lead to is that of the recording, and what refuses it refuses that.
-use Rattle.std.proofs.Common.{◌≡◌, ◌⊎◌, ◌+◌, ◌^◌, ◌≤◌, ℕ, Err, IfErr, IfOk, List, None, Ok, Result, inl, inr, ⊎_elim}
+use Rattle.std.proofs.Common.{◌≡◌, ◌⊎◌, ◌+◌, ◌^◌, ◌≤◌, Err, IfErr, IfOk, None, Ok, Result, inl, inr, ⊎_elim}
 use Rattle.debug_commands.specs.Debuggees.{IsRefusal, IsRunOf}
 use Rattle.gdb_runs.specs.Sessions.{IsReady, handed, image_of}
 use Rattle.gdb_runs.specs.declared.debugged.Debugged.{Debugged}

@@ -1,5 +1,5 @@
 -- What a debugger is served, what standard error takes, and with which status that ends. `either` says what files hold that are recordings or
--- executions.
+-- executions, and `lacks` that one couldn't be read for a fault.
 use Rattle.std.specs.Prelude.{◌≡◌, ℕ, List, ◌++◌, codes, None}
 use Rattle.std.specs.Fmt.{decimal}
 use Rattle.debug_commands.specs.Debuggees.{IsDebuggee, IsUnopened}
@@ -20,6 +20,7 @@ use Rattle.past_commands.specs.Failures.{failure_number}
 use Rattle.past_commands.specs.declared.failure.PastFailure.{PastFailure}
 use Rattle.program_files.specs.declared.exit_status.ExitStatus.{ExitStatus}
 use Rattle.program_files.specs.declared.exit_status.ExitStatus.TheVariants as statuses
+use Rattle.program_files.specs.declared.files.FileFault.{FileFault}
 
 -- what a debugger said, what it was answered, and what standard error took, each before and after
 pub record Dialogue : Type 0 where
@@ -67,6 +68,6 @@ pub record IsToldWhy (f : PastFailure) (status : ExitStatus) (w : Dialogue) : Ty
   pub answered : IsRefusedEach (failure_number f) w
 
 -- it was served what the file of the path holds, or told why there is nothing to look at
-pub data IsDebugged (either : List ℕ → List ℕ → List ℕ → List ℕ → Type 0) (path : List ℕ) (status : ExitStatus) (w : Dialogue) : Type 0 where
-  Looks : (d : Debuggee) → IsDebuggee either path d → IsServedBy d status w → IsDebugged either path status w
-  Is_refused : (f : PastFailure) → IsUnopened either path f → IsToldWhy f status w → IsDebugged either path status w
+pub data IsDebugged (either : List ℕ → List ℕ → List ℕ → List ℕ → Type 0) (lacks : List ℕ → FileFault → Type 0) (path : List ℕ) (status : ExitStatus) (w : Dialogue) : Type 0 where
+  Looks : (d : Debuggee) → IsDebuggee either path d → IsServedBy d status w → IsDebugged either lacks path status w
+  Is_refused : (f : PastFailure) → IsUnopened either lacks path f → IsToldWhy f status w → IsDebugged either lacks path status w

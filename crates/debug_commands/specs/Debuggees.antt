@@ -1,4 +1,5 @@
--- What a debugger looks at, and why there is nothing to look at. `either` says what files hold that are recordings or executions.
+-- What a debugger looks at, and why there is nothing to look at. `either` says what files hold that are recordings or executions, and
+-- `lacks` that one couldn't be read for a fault.
 use Rattle.std.specs.Prelude.{◌≡◌, ◌≢◌, ◌⊎◌, ◌+◌, ◌^◌, ◌≤◌, ℕ, List}
 use Rattle.debug_commands.specs.declared.debuggee.Debuggee.{Debuggee}
 use Rattle.debug_commands.specs.declared.debuggee.Debuggee.TheVariants as debuggees
@@ -22,6 +23,7 @@ use Rattle.past_commands.specs.declared.failure.PastFailure.TheVariants as failu
 use Rattle.past_commands.specs.declared.past.Past.{Past}
 use Rattle.past_commands.specs.declared.past.Past.TheVariants as pasts
 use Rattle.program_files.specs.declared.failure.RunFailure.TheVariants as runs
+use Rattle.program_files.specs.declared.files.FileFault.{FileFault}
 use Rattle.recording.specs.Recorded.{Recorded}
 use Rattle.replayer.specs.Refusals.{HasImage, HasImageCause, HasPlanCause, HasReason}
 use Rattle.replayer.specs.Replayed.{IsPlanFor, format_of, start_of}
@@ -96,5 +98,5 @@ pub record IsDebuggee (either : List ℕ → List ℕ → List ℕ → List ℕ 
   pub is : IsDebuggeeOf past d
 
 -- why there is nothing to look at: the file can't be read, it holds neither a recording nor an execution, or what it holds is refused
-abbrev pub IsUnopened : (List ℕ → List ℕ → List ℕ → List ℕ → Type 0) → List ℕ → PastFailure → Type 0
-IsUnopened either path f = EndsReading either path f ⊎ ((past : Past) × HoldsPast either path past × IsRefusedPast past f)
+abbrev pub IsUnopened : (List ℕ → List ℕ → List ℕ → List ℕ → Type 0) → (List ℕ → FileFault → Type 0) → List ℕ → PastFailure → Type 0
+IsUnopened either lacks path f = EndsReading either lacks path f ⊎ ((past : Past) × HoldsPast either path past × IsRefusedPast past f)

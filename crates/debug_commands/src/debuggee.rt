@@ -35,7 +35,7 @@ pub(crate) fn opened<F: PastFiles>(
     path: &str,
 ) -> Result<Debuggee, PastFailure>
     ensures opens { IfOk result (IsDebuggee (F.either files.now) path.now) }
-    ensures errors { IfErr result (IsUnopened (F.either files.now) path.now) }
+    ensures errors { IfErr result (IsUnopened (F.either files.now) (F.lacks files.now) path.now) }
 {
     let past = read_past(files, alloc, path)?;
     opened_past(alloc, &past)

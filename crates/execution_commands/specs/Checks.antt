@@ -1,4 +1,5 @@
--- The execution that `check` looks at, and why it ends without a verdict. `holds` says what files hold.
+-- The execution that `check` looks at, and why it ends without a verdict. `holds` says what files hold, `lacks` that one couldn't be read
+-- for a fault, and `failed` that the output failed.
 use Rattle.std.specs.Prelude.{◌≡◌, ◌⊎◌, List, None, ℕ}
 use Rattle.execution_commands.specs.Texts.{IsRefusedIn}
 use Rattle.execution_commands.specs.declared.failure.ExecutionFailure.{ExecutionFailure}
@@ -8,17 +9,17 @@ use Rattle.execution_file.specs.Recorded.{Recorded}
 use Rattle.execution_scripts.specs.Findings.{IsFound, guest_in}
 use Rattle.execution_scripts.specs.declared.checking.Checked.{Checked}
 use Rattle.host_io.specs.declared.error.RunError.{RunError}
-use Rattle.host_io.specs.declared.error.RunError.TheVariants as refusals
-use Rattle.program_files.specs.Failures.{IsFileFailure}
+use Rattle.program_files.specs.Failures.{IsCutOff, IsFileFailure}
 use Rattle.program_files.specs.declared.failure.RunFailure.{RunFailure}
 use Rattle.program_files.specs.declared.failure.RunFailure.TheVariants as runs
+use Rattle.program_files.specs.declared.files.FileFault.{FileFault}
 
 -- the execution that a text says, and what is found of it
 pub record CheckedText (text : List ℕ) : Type 0 where
   pub execution : Recorded
   pub checked : Checked
   pub says : IsExecution text execution
-  pub found : IsFound (guest_in execution) execution.harts execution.order None checked.finding checked
+  pub found : IsFound (guest_in execution) execution None checked.finding checked
 
 -- the same of the text that a file held
 pub record CheckedFile (holds : List ℕ → List ℕ → Type 0) (path : List ℕ) : Type 0 where
@@ -43,9 +44,11 @@ pub record Held (holds : List ℕ → List ℕ → Type 0) (path : List ℕ) (P 
   pub held : holds path text
   pub so : P text
 
--- why the command ends without a verdict: the file can't be read, its text is no execution, its guest is refused, memory is, or the output
--- can't be written
-abbrev pub EndsCheck : (List ℕ → List ℕ → Type 0) → List ℕ → ExecutionFailure → Type 0
-EndsCheck holds path (Run failure) =
-    IsFileFailure failure ⊎ (failure ≡ runs.Refused refusals.SinkFailed) ⊎ Held holds path (λ text. IsUnchecked text failure)
-EndsCheck holds path (NoExecution cause line) = Held holds path (λ text. IsRefusedIn text cause line)
+-- why a file isn't checked: it couldn't be read, its text is no execution, its guest is refused, or memory is
+abbrev pub IsUncheckedFile : (List ℕ → List ℕ → Type 0) → (List ℕ → FileFault → Type 0) → List ℕ → ExecutionFailure → Type 0
+IsUncheckedFile holds lacks path (Run failure) = IsFileFailure lacks (λ named. named ≡ path) ⊥ failure ⊎ Held holds path (λ text. IsUnchecked text failure)
+IsUncheckedFile holds lacks path (NoExecution cause line) = Held holds path (λ text. IsRefusedIn text cause line)
+
+-- why the command ends without a verdict: the file isn't checked, memory is refused, or the output failed
+abbrev pub EndsCheck : (List ℕ → List ℕ → Type 0) → (List ℕ → FileFault → Type 0) → List ℕ → Type 0 → ExecutionFailure → Type 0
+EndsCheck holds lacks path failed f = IsUncheckedFile holds lacks path f ⊎ ((error : RunError) × (f ≡ Run (runs.Refused error)) × IsCutOff failed error)

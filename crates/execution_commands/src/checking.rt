@@ -1,8 +1,8 @@
 ghost use Rattle.std.specs.Prelude.{◌≡◌, ◌⊎◌, ◌++◌, ℕ, IfErr, IfOk, List, OnErr};
-ghost use Rattle.execution_commands.specs.Checks.{CheckedFile, EndsCheck, checked_in};
+ghost use Rattle.execution_commands.specs.Checks.{CheckedFile, EndsCheck, IsUncheckedFile, checked_in};
 ghost use Rattle.execution_commands.specs.Verdicts.{IsVerdictText, verdict_status};
 ghost use Rattle.host_io.specs.Taken.{BeganText};
-ghost use Rattle.host_io.specs.declared.error.RunError.TheVariants as refusals;
+ghost use Rattle.program_files.specs.Failures.{HasFailed, IsCutOff};
 
 use crate::failure::ExecutionFailure;
 use crate::reading::read_execution_text;
@@ -33,7 +33,8 @@ pub fn check_command<F: Files, O: Output>(
     ensures begun { OnErr result ((O.took out.new ≡ O.took out.old) ⊎
         ((a : CheckedFile (F.holds files.now) asked.now.file.now) × (text : List ℕ) × IsVerdictText (checked_in a) text ×
         BeganText (O.took out.old) (O.took out.new) text)) }
-    ensures errors { IfErr result (EndsCheck (F.holds files.now) asked.now.file.now) }
+    ensures errors { IfErr result (EndsCheck (F.holds files.now) (F.lacks files.now) asked.now.file.now
+        (HasFailed O.failures O.is_stuck out.old out.new)) }
 {
     let checked = checked_file(files, alloc, asked.file)?;
     let printed = print_verdict(alloc, &checked, out);
@@ -51,7 +52,7 @@ fn print_verdict<O: Output>(
         (O.took out.new ≡ O.took out.old ++ text) × O.is_out out.new × (status ≡ verdict_status checked.now.finding)) }
     ensures begun { OnErr result ((O.took out.new ≡ O.took out.old) ⊎
         ((text : List ℕ) × IsVerdictText checked.now text × BeganText (O.took out.old) (O.took out.new) text)) }
-    ensures errors { IfErr result (λ e. (e ≡ refusals.OutOfMemory) ⊎ (e ≡ refusals.SinkFailed)) }
+    ensures errors { IfErr result (IsCutOff (HasFailed O.failures O.is_stuck out.old out.new)) }
 {
     let status = put_verdict(alloc, checked, out)?;
     out.hand_on()?;
@@ -61,7 +62,7 @@ fn print_verdict<O: Output>(
 /// Checks the execution of the file of a path.
 fn checked_file<F: Files>(files: &F, alloc: Global, path: &str) -> Result<Checked, ExecutionFailure>
     ensures checks { IfOk result (λ c. (a : CheckedFile (F.holds files.now) path.now) × (c ≡ checked_in a)) }
-    ensures errors { IfErr result (EndsCheck (F.holds files.now) path.now) }
+    ensures errors { IfErr result (IsUncheckedFile (F.holds files.now) (F.lacks files.now) path.now) }
 {
     let text = read_file(files, alloc, path)?;
     let file = read_execution_text(alloc, &text)?;

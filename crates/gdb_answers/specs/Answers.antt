@@ -1,5 +1,5 @@
 -- What a debugger is answered about a hart of a run at a point, byte by byte.
-use Rattle.std.specs.Prelude.{ℕ, zero, suc, ◌==◌, if◌then◌else◌, List, [], ◌∷◌, ◌++◌, length, codes, slice_get, Option, Some, None}
+use Rattle.std.specs.Prelude.{ℕ, zero, suc, ◌==◌, if◌then◌else◌, List, [], ◌∷◌, ◌++◌, length, codes, min, slice_get, Option, Some, None}
 use Rattle.std.specs.Option.{option_map}
 use Rattle.hex.specs.Hex.{encode_lower}
 use Rattle.hart_step.specs.declared.hart.Hart.{Hart}
@@ -13,7 +13,8 @@ use Rattle.timelines.specs.Shown.{seen}
 use Rattle.gdb_replies.specs.Replies.{checksum_text, note_text, part_of, thread_element, thread_list_begin, thread_list_end}
 use Rattle.gdb_replies.specs.Words.{numbers_of, register_text, registers_text}
 use Rattle.gdb_replies.specs.declared.note.ThreadNote.{ThreadNote}
-use Rattle.gdb_answers.specs.Checksums.{checksum_of}
+use Rattle.checksums.specs.Checksums.{checksum_of}
+use Rattle.gdb_answers.specs.Files.{most_read}
 use Rattle.gdb_answers.specs.Stores.{bytes_covered}
 use Rattle.gdb_talk.specs.Told.{note_of, or_missing, registers_of}
 
@@ -33,8 +34,9 @@ abbrev pub bytes_answer : List ℕ → List ℕ
 bytes_answer [] = codes "E01"
 bytes_answer (b ∷ bs) = encode_lower (b ∷ bs)
 
+-- no more than 32,000 bytes are told at once: so a reply, of two digits for each, is no longer than a packet may be
 abbrev pub memory_answer : ℕ → ℕ → Option (Sight Hart) → List ℕ
-memory_answer address count s = or_missing s (λ (x : Sight Hart). bytes_answer (bytes_from x.bytes address count))
+memory_answer address count s = or_missing s (λ (x : Sight Hart). bytes_answer (bytes_from x.bytes address (min count most_read)))
 
 -- what is said of hart i where it is seen so: where it is, whether it waits for its turn, and how many bytes its stores cover that are not committed
 abbrev pub note_seen : Running → Point → ℕ → Sight Hart → ThreadNote

@@ -1,4 +1,3 @@
-pub mod Checksums
 pub mod Files
 pub mod Stores
 pub mod Answers

@@ -9,6 +9,7 @@ ghost use Rattle.gdb_answers.specs.Answers.{bytes_answer, memory_answer, note_an
 ghost use Rattle.timelines.specs.Shown.{seen};
 ghost use Rattle.round_schedule.specs.Bounds.{AreWorkers};
 
+use crate::files::MOST_READ;
 use crate::noting::note_at;
 use gdb_replies::{Registers, Reply, write_reply};
 use gdb_talk::{Look, registers_of};
@@ -92,7 +93,7 @@ fn register_of(registers: &Registers, number: u64) -> Option<u64>
     }
 }
 
-/// Answers with at most `count` bytes of memory from an address on, as a hart sees them at a point. It may wait.
+/// Answers with at most `count` bytes of memory from an address on, and 32,000 at most, as a hart sees them at a point. It may wait.
 ///
 /// # Errors
 ///
@@ -116,7 +117,7 @@ pub fn answer_memory<R: Threads + Wait + Sync, K: Sink>(
     let Some(sight) = timeline.shown_at(rt, &look.point, look.hart, look.workers)? else {
         return write_reply(alloc, &Reply::Missing, out);
     };
-    let seen = sight.bytes(alloc, address, count);
+    let seen = sight.bytes(alloc, address, count.min(MOST_READ));
     drop(sight);
     let bytes = seen?;
     answer_bytes(alloc, bytes.as_slice(), out)

@@ -8,7 +8,7 @@ ghost use Rattle.gdb_answers.specs.Answers.{checksum_answer, sum_answer};
 ghost use Rattle.timelines.specs.Shown.{seen};
 ghost use Rattle.round_schedule.specs.Bounds.{AreWorkers};
 
-use crate::checksum::checksum_of;
+use checksums::checksum_of;
 use gdb_replies::{Reply, write_reply};
 use gdb_talk::Look;
 use host_io::{RunError, Sink};

@@ -12,7 +12,7 @@ use gdb_replies::FileReply;
 const IMAGE: u64 = 1;
 
 /// The most bytes that are told at once, so that a reply of bytes that each need two is no longer than a packet may be.
-const MOST_READ: u64 = 32_000;
+pub(crate) const MOST_READ: u64 = 32_000;
 
 /// The number of the error that there is no such file.
 const NO_SUCH_FILE: u32 = 2;

@@ -2,7 +2,6 @@
 #![tactic(auto)]
 
 mod answering;
-mod checksum;
 mod commands;
 mod comparing;
 mod covering;

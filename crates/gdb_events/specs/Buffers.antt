@@ -11,6 +11,7 @@ use Rattle.moments.specs.Sights.{Sight}
 use Rattle.past_harts.specs.declared.point.Point.{Point}
 use Rattle.gdb_replies.specs.CommandTexts.{store_line}
 use Rattle.gdb_talk.specs.Told.{or_missing}
+use Rattle.gdb_events.specs.Output.{last_told}
 use Rattle.gdb_events.specs.Saying.{text_or}
 use Rattle.timelines.specs.OwnParts.{uncommitted}
 
@@ -21,8 +22,9 @@ line_of s = store_line s.address (take (width_bytes s.width) (to_le_bytes w64 s.
 abbrev pub store_lines : List Store → List ℕ
 store_lines ss = flat_map line_of ss
 
+-- of many the end is told
 abbrev pub buffer_text : List Store → List ℕ
-buffer_text ss = text_or (codes "no stores\n") (store_lines ss)
+buffer_text ss = text_or (codes "no stores\n") (last_told (store_lines ss))
 
 abbrev pub buffer_answer : Running → Point → ℕ → Option (Sight Hart) → List ℕ
 buffer_answer m at h s = or_missing s (λ (x : Sight Hart). encode_lower (buffer_text (uncommitted m at h)))

@@ -11,6 +11,7 @@ ghost use Rattle.timelines.specs.Shown.{seen};
 ghost use Rattle.gdb_events.specs.Buffers.{buffer_answer, buffer_text, line_of, store_lines};
 ghost use Rattle.round_schedule.specs.Bounds.{AreWorkers};
 
+use crate::output::end_of;
 use crate::saying::say_or;
 use gdb_replies::{Reply, add_store_line, write_reply};
 use gdb_talk::Look;
@@ -24,7 +25,7 @@ use timelines::Timeline;
 /// What is said where there are none.
 const NONE: &[u8] = b"no stores\n";
 
-/// Answers with the stores of a hart that are not committed at a point of the run. It may wait.
+/// Answers with the stores of a hart that are not committed at a point of the run, and of many with the last lines. It may wait.
 ///
 /// # Errors
 ///
@@ -59,7 +60,7 @@ fn say_buffer<K: Sink>(alloc: Global, stores: &[Store], out: &mut K) -> Result<(
     ensures memory { result ≡ Err refusals.OutOfMemory → K.took out.new ≡ K.took out.old }
 {
     match store_lines(alloc, stores) {
-        Ok(text) => say_or(alloc, text.as_slice(), NONE, out),
+        Ok(text) => say_or(alloc, end_of(text.as_slice()), NONE, out),
         Err(_) => Err(RunError::OutOfMemory),
     }
 }

@@ -1,10 +1,10 @@
-ghost use Rattle.std.specs.Prelude.{◌≡◌, ◌<◌, ◌+◌, ◌-◌, ◌^◌, ◌++◌, drop, length, Err, OnOk};
+ghost use Rattle.std.specs.Prelude.{◌≡◌, ◌<◌, ◌+◌, ◌^◌, ◌++◌, Err, OnOk};
 ghost use Rattle.host_io.specs.Taken.{WritesText};
 ghost use Rattle.host_io.specs.declared.error.RunError.TheVariants as refusals;
 ghost use Rattle.machine.specs.Machine.{Running, after_rounds};
 ghost use Rattle.machine.specs.Untraced.{IsUntraced};
 ghost use Rattle.gdb_packets.specs.Writing.{packet_text};
-ghost use Rattle.gdb_events.specs.Output.{most_put_out, output_answer};
+ghost use Rattle.gdb_events.specs.Output.{last_told, output_answer};
 ghost use Rattle.round_schedule.specs.Bounds.{AreWorkers};
 
 use gdb_replies::{Reply, write_reply};
@@ -14,7 +14,7 @@ use std::alloc::Global;
 use std::sync::Wait;
 use std::thread::Threads;
 
-/// The most bytes of output that are told, so that a reply, of two digits for each, is no longer than a packet may be.
+/// The most bytes of a text that are told, so that a reply, of two digits for each, is no longer than a packet may be.
 const MOST_PUT_OUT: usize = 32_000;
 
 /// Answers what the program has put out after so many rounds of the run of a machine, or the end of it where it is long. It may wait.
@@ -75,8 +75,8 @@ fn say_output<K: Sink>(alloc: Global, output: &[u8], out: &mut K) -> Result<(), 
 }
 
 /// The last ones of some bytes, as many as are told.
-fn end_of<'a>(bytes: &'a [u8]) -> &'a [u8]
-    ensures { result.now ≡ drop (length bytes.now - most_put_out) bytes.now }
+pub(crate) fn end_of<'a>(bytes: &'a [u8]) -> &'a [u8]
+    ensures { result.now ≡ last_told bytes.now }
 {
     let start = bytes.len().saturating_sub(MOST_PUT_OUT);
     &bytes[start..]

@@ -1,5 +1,6 @@
--- What a hunt that a line asks for is given, the table that it makes, and why it is refused. `holds` and `begins` say what files hold, and
--- `weakly` that rows are the table that a weak hunt makes in executions of so many steps.
+-- What a hunt that a line asks for is given, the table that it makes, and why it is refused. `holds` and `begins` say what files hold,
+-- `lacks` that one couldn't be read for a fault, `failed` that the output failed, and `weakly` that rows are the table that a weak hunt
+-- makes in executions of so many steps.
 use Rattle.std.specs.Prelude.{◌≡◌, ◌⊎◌, ℕ, List, Bool, true, false, Option, Some, None}
 use Rattle.command_line.specs.declared.settings.Hunt.{Hunt}
 use Rattle.command_line.specs.declared.settings.Search.{Search}
@@ -8,6 +9,7 @@ use Rattle.host_io.specs.declared.load_error.LoadError.{LoadError as ImageCause}
 use Rattle.hunt_commands.specs.declared.failure.HuntFailure.{HuntFailure}
 use Rattle.hunt_commands.specs.declared.failure.HuntFailure.TheVariants.{Naming, Refused, Run}
 use Rattle.hunt_commands.specs.Settings.{HasEnd, HasNumbers, HasRanges, IsNamed}
+use Rattle.hunt_table.specs.Programs.{fingerprint_of}
 use Rattle.hunt_table.specs.Text.{table_text, with_count}
 use Rattle.hunter.specs.Hunts.{IsHuntReason, IsHunted, IsImageCause, hunt_fault}
 use Rattle.hunter.specs.declared.error.HuntError.{HuntError}
@@ -15,9 +17,10 @@ use Rattle.hunter.specs.declared.error.HuntError.TheVariants as hunting
 use Rattle.hunter.specs.declared.settings.HuntSettings.{HuntSettings}
 use Rattle.program_files.specs.declared.fault.NamingFault.{NamingFault}
 use Rattle.plan_hunt.specs.declared.row.Row.{Row}
-use Rattle.program_files.specs.Asked.{IsProgramOf}
+use Rattle.program_files.specs.Asked.{IsFileOfProgram, IsProgramOf, LacksSpurious}
 use Rattle.program_files.specs.Failures.{IsFileFailure}
 use Rattle.program_files.specs.declared.failure.RunFailure.TheVariants as runs
+use Rattle.program_files.specs.declared.files.FileFault.{FileFault}
 use Rattle.weak_hunter.specs.WeakHunts.{IsWeaklyHunted}
 use Rattle.weak_hunter.specs.declared.error.WeakHuntError.{WeakHuntError}
 use Rattle.weak_hunter.specs.declared.error.WeakHuntError.TheVariants as hunts
@@ -37,6 +40,7 @@ pub record SetHunt (weakly : HuntSettings → List ℕ → List ℕ → ℕ → 
   pub rows : List Row
   pub numbers : HasNumbers asked.search asked.first asked.plans asked.weak settings
   pub ends : HasEnd asked settings
+  pub program : settings.header.program ≡ Some (fingerprint_of image)
   pub ranges : HasRanges asked.search image settings
   pub table : IsTableBy weakly asked.steps asked.weak settings image input done rows
 
@@ -54,62 +58,70 @@ pub record AskedHunt (holds : List ℕ → List ℕ → Type 0) (begins : List �
 
 -- ---- refusals
 
--- memory is refused, the output can't be written, or the image is refused
-abbrev pub IsGuestReason : HuntSettings → List ℕ → HuntError → Type 0
-IsGuestReason s image e = (e ≡ hunting.Run refusals.OutOfMemory) ⊎ (e ≡ hunting.Run refusals.SinkFailed)
+-- memory is refused, the output failed, or the image is refused
+abbrev pub IsGuestReason : HuntSettings → List ℕ → Type 0 → HuntError → Type 0
+IsGuestReason s image failed e = (e ≡ hunting.Run refusals.OutOfMemory) ⊎ ((e ≡ hunting.Run refusals.SinkFailed) × failed)
     ⊎ ((cause : ImageCause) × IsImageCause s image cause × (e ≡ hunting.Run (refusals.Image cause)))
 
 -- why a hunt with settings in range is refused, but for the bytes that it looks at; a weak one also where an execution isn't confirmed
-abbrev pub IsReason : Bool → HuntSettings → List ℕ → WeakHuntError → Type 0
-IsReason weak s image (hunts.Hunt e) = IsGuestReason s image e
-IsReason weak s image (hunts.Unconfirmed number) = weak ≡ true
+abbrev pub IsReason : Bool → HuntSettings → List ℕ → Type 0 → WeakHuntError → Type 0
+IsReason weak s image failed (hunts.Hunt e) = IsGuestReason s image failed e
+IsReason weak s image failed (hunts.Unconfirmed number) = weak ≡ true
 
 -- why the hunt that a line asks for is refused where its settings are in range
-abbrev pub IsReasonOf : Search → Bool → HuntSettings → List ℕ → HuntFailure → Type 0
-IsReasonOf search weak s image (Run failure) = ⊥
-IsReasonOf search weak s image (Refused error) = IsReason weak s image error
-IsReasonOf search weak s image (Naming fault) = IsNamed search image (Some fault)
+abbrev pub IsReasonOf : Search → Bool → HuntSettings → List ℕ → Type 0 → HuntFailure → Type 0
+IsReasonOf search weak s image failed (Run failure) = ⊥
+IsReasonOf search weak s image failed (Refused error) = IsReason weak s image failed error
+IsReasonOf search weak s image failed (Naming fault) = IsNamed search image (Some fault)
 
 -- a search with these settings is refused: for what is out of range, then for the image, then for the bytes that it looks at, or for
 -- want of memory
-pub record IsRefusedSo (search : Search) (weak : Bool) (fault : Option HuntError) (s : HuntSettings) (image : List ℕ) (f : HuntFailure) : Type 0 where
+pub record IsRefusedSo (search : Search) (weak : Bool) (fault : Option HuntError) (s : HuntSettings) (image : List ℕ) (failed : Type 0) (f : HuntFailure) : Type 0 where
   pub of_settings : (e : HuntError) → fault ≡ Some e → f ≡ Refused (hunts.Hunt e)
   pub of_image : (cause : ImageCause) → fault ≡ None → IsImageCause s image cause →
       (f ≡ Refused (hunts.Hunt (hunting.Run (refusals.Image cause)))) ⊎ (f ≡ Refused (hunts.Hunt (hunting.Run refusals.OutOfMemory)))
-  pub reason : fault ≡ None → IsReasonOf search weak s image f
+  pub reason : fault ≡ None → IsReasonOf search weak s image failed f
 
 -- the search of a line is refused
-pub record RefusedSearch (search : Search) (first count : ℕ) (weak : Bool) (fault_of : HuntSettings → Option HuntError) (image : List ℕ) (f : HuntFailure) : Type 0 where
+pub record RefusedSearch (search : Search) (first count : ℕ) (weak : Bool) (fault_of : HuntSettings → Option HuntError) (image : List ℕ) (failed : Type 0) (f : HuntFailure) : Type 0 where
   pub settings : HuntSettings
   pub numbers : HasNumbers search first count weak settings
-  pub refused : IsRefusedSo search weak (fault_of settings) settings image f
+  pub refused : IsRefusedSo search weak (fault_of settings) settings image failed f
 
 -- why a search is refused whose bytes can't be looked at: the image is refused before
 abbrev pub IsFaultReason : NamingFault → HuntSettings → List ℕ → HuntFailure → Type 0
-IsFaultReason fault s image f = (f ≡ Naming fault) ⊎ ((e : HuntError) × IsGuestReason s image e × (f ≡ Refused (hunts.Hunt e)))
+IsFaultReason fault s image f = (f ≡ Naming fault) ⊎ ((e : HuntError) × IsGuestReason s image ⊥ e × (f ≡ Refused (hunts.Hunt e)))
 
 -- the same as the hunter tells it, which knows ranges alone
-abbrev pub IsHuntRefusal : Bool → HuntSettings → List ℕ → WeakHuntError → Type 0
-IsHuntRefusal weak s image (hunts.Hunt e) = IsHuntReason s image e ⊎ (e ≡ hunting.Run refusals.SinkFailed)
-IsHuntRefusal weak s image (hunts.Unconfirmed number) = weak ≡ true
+abbrev pub IsHuntRefusal : Bool → HuntSettings → List ℕ → Type 0 → WeakHuntError → Type 0
+IsHuntRefusal weak s image failed (hunts.Hunt e) = IsHuntReason s image e ⊎ ((e ≡ hunting.Run refusals.SinkFailed) × failed)
+IsHuntRefusal weak s image failed (hunts.Unconfirmed number) = weak ≡ true
 
--- a file can't be read, memory is refused, or the output can't be written
-abbrev pub IsFileEnd : HuntFailure → Type 0
-IsFileEnd (Run failure) = IsFileFailure failure ⊎ (failure ≡ runs.Refused refusals.SinkFailed)
-IsFileEnd (Refused error) = ⊥
-IsFileEnd (Naming fault) = ⊥
+-- memory is refused, or the output failed
+abbrev pub IsCutEnd : Type 0 → HuntFailure → Type 0
+IsCutEnd failed (Run failure) = (failure ≡ runs.Refused refusals.OutOfMemory) ⊎ ((failure ≡ runs.Refused refusals.SinkFailed) × failed)
+IsCutEnd failed (Refused error) = ⊥
+IsCutEnd failed (Naming fault) = ⊥
+
+-- a file that is named couldn't be read, the image is without what is asked for, or memory is refused
+abbrev pub IsFileEnd : (List ℕ → FileFault → Type 0) → (List ℕ → Type 0) → Type 0 → HuntFailure → Type 0
+IsFileEnd lacks is_named is_without (Run failure) = IsFileFailure lacks is_named is_without failure
+IsFileEnd lacks is_named is_without (Refused error) = ⊥
+IsFileEnd lacks is_named is_without (Naming fault) = ⊥
 
 -- why a hunt ends without its table, where its files were read
-abbrev pub IsHuntEnd : Hunt → List ℕ → HuntFailure → Type 0
-IsHuntEnd asked image f = IsFileEnd f ⊎ RefusedSearch asked.search asked.first asked.plans asked.weak hunt_fault image f
+abbrev pub IsHuntEnd : Hunt → List ℕ → Type 0 → HuntFailure → Type 0
+IsHuntEnd asked image failed f = IsCutEnd failed f ⊎ RefusedSearch asked.search asked.first asked.plans asked.weak hunt_fault image failed f
 
 -- the hunt that a line asks for is refused
-pub record RefusedHunt (holds : List ℕ → List ℕ → Type 0) (begins : List ℕ → ℕ → List ℕ → Type 0) (asked : Hunt) (f : HuntFailure) : Type 0 where
+pub record RefusedHunt (holds : List ℕ → List ℕ → Type 0) (begins : List ℕ → ℕ → List ℕ → Type 0) (asked : Hunt) (failed : Type 0) (f : HuntFailure) : Type 0 where
   pub image : List ℕ
   pub input : List ℕ
   pub given : IsProgramOf holds begins asked.search.program image input
-  pub refused : RefusedSearch asked.search asked.first asked.plans asked.weak hunt_fault image f
+  pub refused : RefusedSearch asked.search asked.first asked.plans asked.weak hunt_fault image failed f
 
 -- why the command ends without its table
-abbrev pub EndsHunt : (List ℕ → List ℕ → Type 0) → (List ℕ → ℕ → List ℕ → Type 0) → Hunt → HuntFailure → Type 0
-EndsHunt holds begins asked f = IsFileEnd f ⊎ RefusedHunt holds begins asked f
+abbrev pub EndsHunt : (List ℕ → List ℕ → Type 0) → (List ℕ → ℕ → List ℕ → Type 0) → (List ℕ → FileFault → Type 0) → Hunt → Type 0 → HuntFailure → Type 0
+EndsHunt holds begins lacks asked failed f =
+    IsFileEnd lacks (IsFileOfProgram asked.search.program) (LacksSpurious holds begins asked.search.program) f ⊎ IsCutEnd failed f
+    ⊎ RefusedHunt holds begins asked failed f

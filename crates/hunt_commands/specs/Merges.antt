@@ -1,4 +1,5 @@
--- The table that `merge` prints, and why it ends without it. `holds` says what files hold.
+-- The table that `merge` prints, and why it ends without it. `holds` says what files hold, `lacks` that one couldn't be read for a fault, and
+-- `failed` that the output failed.
 use Rattle.std.specs.Prelude.{◌≡◌, ◌≢◌, ◌⊎◌, ◌≤◌, ◌<◌, ◌+◌, ◌-◌, ◌++◌, ◌∷◌, All, IsPermutation, List, None, Option, Some, length, map, slice_index_or, string_bytes, ℕ}
 use Rattle.std.specs.Global.{Vec}
 use Rattle.std.specs.List.Sorted.{IsNonDecreasingBy, IsStableByKey}
@@ -10,13 +11,14 @@ use Rattle.hunt_commands.specs.declared.merge_failure.MergeFailure.TheVariants a
 use Rattle.hunt_commands.specs.declared.neighbours.Apart.{Apart}
 use Rattle.hunt_commands.specs.declared.neighbours.Apart.TheVariants as causes
 use Rattle.hunt_commands.specs.declared.table_files.TableFile.{TableFile}
-use Rattle.hunt_table.specs.Merging.{AreApart, AreMerged, IsFirstNoTable, IsNoTable, IsOfHunt, harts_of}
+use Rattle.hunt_table.specs.Merging.{AreApart, AreMerged, IsFirstNoTable, IsFirstOfOther, IsNoTable, IsOfHunt, harts_of}
 use Rattle.hunt_table.specs.Text.{IsTextOf, table_text}
 use Rattle.hunt_table.specs.declared.merge_error.MergeError.{MergeError}
 use Rattle.hunt_table.specs.declared.merge_error.MergeError.TheVariants as merging
 use Rattle.hunt_table.specs.declared.table.Table.{Table}
 use Rattle.program_files.specs.Failures.{IsFileFailure}
 use Rattle.program_files.specs.declared.failure.RunFailure.TheVariants as runs
+use Rattle.program_files.specs.declared.files.FileFault.{FileFault}
 
 -- ---- the tables of a line
 
@@ -71,7 +73,7 @@ pub record AskedMerge (holds : List ℕ → List ℕ → Type 0) (asked : Merge)
 
 -- a table is of the same hunt as another one
 abbrev pub IsOfHuntOf : Table → Table → Type 0
-IsOfHuntOf last next = IsOfHunt last.header.is_weak last.header.seed last.header.ranges.items (harts_of last.rows.items) next
+IsOfHuntOf last next = IsOfHunt last.header.program last.header.is_weak last.header.seed last.header.ranges.items (harts_of last.rows.items) next
 
 -- the plan after the last one of a table
 abbrev pub end_of : Table → ℕ
@@ -84,12 +86,15 @@ pub record GoesOn (last next : Table) : Type 0 where
 
 -- it isn't, for this cause and for none of those before it
 abbrev pub IsApart : Apart → Table → Table → Type 0
-IsApart causes.Kind last next = next.header.is_weak ≢ last.header.is_weak
-IsApart causes.Seed last next = (next.header.is_weak ≡ last.header.is_weak) × (next.header.seed ≢ last.header.seed)
+IsApart causes.Program last next = next.header.program ≢ last.header.program
+IsApart causes.Kind last next = (next.header.program ≡ last.header.program) × (next.header.is_weak ≢ last.header.is_weak)
+IsApart causes.Seed last next =
+    (next.header.program ≡ last.header.program) × (next.header.is_weak ≡ last.header.is_weak) × (next.header.seed ≢ last.header.seed)
 IsApart causes.Bytes last next =
-    (next.header.is_weak ≡ last.header.is_weak) × (next.header.seed ≡ last.header.seed) × (next.header.ranges.items ≢ last.header.ranges.items)
+    (next.header.program ≡ last.header.program) × (next.header.is_weak ≡ last.header.is_weak) × (next.header.seed ≡ last.header.seed)
+    × (next.header.ranges.items ≢ last.header.ranges.items)
 IsApart causes.Harts last next =
-    (next.header.is_weak ≡ last.header.is_weak) × (next.header.seed ≡ last.header.seed) × (next.header.ranges.items ≡ last.header.ranges.items)
+    (next.header.program ≡ last.header.program) × (next.header.is_weak ≡ last.header.is_weak) × (next.header.seed ≡ last.header.seed) × (next.header.ranges.items ≡ last.header.ranges.items)
     × (harts_of next.rows.items ≢ harts_of last.rows.items)
 IsApart causes.Gap last next = IsOfHuntOf last next × (end_of last < next.header.first)
 IsApart causes.Overlap last next = IsOfHuntOf last next × (next.header.first < end_of last)
@@ -127,11 +132,11 @@ pub record AreFirstApart (files : List TableFile) (last next : List ℕ) (why : 
 -- ---- refusals
 
 -- the file of a path can't be read, or it held no table
-abbrev pub IsUntabled : (List ℕ → List ℕ → Type 0) → List ℕ → MergeFailure → Type 0
-IsUntabled holds path (failures.Run failure) = IsFileFailure failure
-IsUntabled holds path (failures.NotATable named) = (string_bytes named ≡ path) × (text : List ℕ) × holds path text × IsNoTable text
-IsUntabled holds path (failures.Apart last next why) = ⊥
-IsUntabled holds path (failures.Merge error) = ⊥
+abbrev pub IsUntabled : (List ℕ → List ℕ → Type 0) → (List ℕ → FileFault → Type 0) → List ℕ → MergeFailure → Type 0
+IsUntabled holds lacks path (failures.Run failure) = IsFileFailure lacks (λ named. named ≡ path) ⊥ failure
+IsUntabled holds lacks path (failures.NotATable named) = (string_bytes named ≡ path) × (text : List ℕ) × holds path text × IsNoTable text
+IsUntabled holds lacks path (failures.Apart last next why) = ⊥
+IsUntabled holds lacks path (failures.Merge error) = ⊥
 
 -- of the paths, this one is the first whose file held no table
 pub record IsFirstUntabled (holds : List ℕ → List ℕ → Type 0) (paths : List (List ℕ)) (path : List ℕ) : Type 0 where
@@ -143,35 +148,41 @@ pub record IsFirstUntabled (holds : List ℕ → List ℕ → Type 0) (paths : L
   pub held : holds path text
   pub no_table : IsNoTable text
 
+-- it is one of the paths
+abbrev pub IsOneOf : List (List ℕ) → List ℕ → Type 0
+IsOneOf paths path = (before : List (List ℕ)) × (after : List (List ℕ)) × (paths ≡ before ++ path ∷ after)
+
 -- why not all files give a table
-abbrev pub IsReadEnd : (List ℕ → List ℕ → Type 0) → List (List ℕ) → MergeFailure → Type 0
-IsReadEnd holds paths (failures.Run failure) = IsFileFailure failure
-IsReadEnd holds paths (failures.NotATable path) = IsFirstUntabled holds paths (string_bytes path)
-IsReadEnd holds paths (failures.Apart last next why) = ⊥
-IsReadEnd holds paths (failures.Merge error) = ⊥
+abbrev pub IsReadEnd : (List ℕ → List ℕ → Type 0) → (List ℕ → FileFault → Type 0) → List (List ℕ) → MergeFailure → Type 0
+IsReadEnd holds lacks paths (failures.Run failure) = IsFileFailure lacks (IsOneOf paths) ⊥ failure
+IsReadEnd holds lacks paths (failures.NotATable path) = IsFirstUntabled holds paths (string_bytes path)
+IsReadEnd holds lacks paths (failures.Apart last next why) = ⊥
+IsReadEnd holds lacks paths (failures.Merge error) = ⊥
 
 -- why texts aren't merged that are those of tables of which each goes on where the one before it ends
 abbrev pub IsRefusal : MergeError → List (Vec ℕ) → Type 0
 IsRefusal (merging.Run error) texts = ⊥
 IsRefusal merging.NotATable texts = IsFirstNoTable texts
 IsRefusal merging.Apart texts = AreApart texts
+IsRefusal merging.OtherProgram texts = IsFirstOfOther texts
 
--- why the tables of these files aren't merged: two are apart, or else the merge is refused; or memory is, or the output can't be written
-abbrev pub IsMergeEnd : List TableFile → MergeFailure → Type 0
-IsMergeEnd files (failures.Run failure) = (failure ≡ runs.Refused refusals.OutOfMemory) ⊎ (failure ≡ runs.Refused refusals.SinkFailed)
-IsMergeEnd files (failures.NotATable path) = ⊥
-IsMergeEnd files (failures.Apart last next why) = AreFirstApart files (string_bytes last) (string_bytes next) why
-IsMergeEnd files (failures.Merge error) = GoOnUpTo files (length files) × IsRefusal error (map text_of files)
+-- why the tables of these files aren't merged: two are apart, or else the merge is refused; or memory is, or the output failed
+abbrev pub IsMergeEnd : List TableFile → Type 0 → MergeFailure → Type 0
+IsMergeEnd files failed (failures.Run failure) = (failure ≡ runs.Refused refusals.OutOfMemory) ⊎ ((failure ≡ runs.Refused refusals.SinkFailed) × failed)
+IsMergeEnd files failed (failures.NotATable path) = ⊥
+IsMergeEnd files failed (failures.Apart last next why) = AreFirstApart files (string_bytes last) (string_bytes next) why
+IsMergeEnd files failed (failures.Merge error) = GoOnUpTo files (length files) × IsRefusal error (map text_of files)
 
 -- the same of the files of a line
-pub record IsRefusedMerge (holds : List ℕ → List ℕ → Type 0) (asked : Merge) (f : MergeFailure) : Type 0 where
+pub record IsRefusedMerge (holds : List ℕ → List ℕ → Type 0) (asked : Merge) (failed : Type 0) (f : MergeFailure) : Type 0 where
   pub files : List TableFile
   pub tables : AreTables holds (paths_of asked) files
-  pub refused : IsMergeEnd files f
+  pub refused : IsMergeEnd files failed f
 
 -- why the command ends without its table
-abbrev pub EndsMerge : (List ℕ → List ℕ → Type 0) → Merge → MergeFailure → Type 0
-EndsMerge holds asked (failures.Run failure) = IsFileFailure failure ⊎ (failure ≡ runs.Refused refusals.SinkFailed)
-EndsMerge holds asked (failures.NotATable path) = IsFirstUntabled holds (paths_of asked) (string_bytes path)
-EndsMerge holds asked (failures.Apart last next why) = IsRefusedMerge holds asked (failures.Apart last next why)
-EndsMerge holds asked (failures.Merge error) = IsRefusedMerge holds asked (failures.Merge error)
+abbrev pub EndsMerge : (List ℕ → List ℕ → Type 0) → (List ℕ → FileFault → Type 0) → Merge → Type 0 → MergeFailure → Type 0
+EndsMerge holds lacks asked failed (failures.Run failure) =
+    IsFileFailure lacks (IsOneOf (paths_of asked)) ⊥ failure ⊎ ((failure ≡ runs.Refused refusals.SinkFailed) × failed)
+EndsMerge holds lacks asked failed (failures.NotATable path) = IsFirstUntabled holds (paths_of asked) (string_bytes path)
+EndsMerge holds lacks asked failed (failures.Apart last next why) = IsRefusedMerge holds asked failed (failures.Apart last next why)
+EndsMerge holds lacks asked failed (failures.Merge error) = IsRefusedMerge holds asked failed (failures.Merge error)

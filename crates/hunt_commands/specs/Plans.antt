@@ -14,7 +14,7 @@ has_bad_harts harts = nat_lt harts 1 || nat_lt 64 harts
 abbrev pub IsAskedPlan : Plan → List ℕ → Type 0
 IsAskedPlan asked text = (budget : ℕ) × IsFamilyPlan asked.seed asked.harts asked.number text budget
 
--- why the command ends without it: for the number of harts, for want of memory, or where the output can't be written
-abbrev pub EndsPlan : Plan → RunFailure → Type 0
-EndsPlan asked f = ((has_bad_harts asked.harts ≡ true) × (f ≡ Refused refusals.HartsOutOfRange))
-    ⊎ (f ≡ Refused refusals.OutOfMemory) ⊎ (f ≡ Refused refusals.SinkFailed)
+-- why the command ends without it: for the number of harts, for want of memory, or since the output failed
+abbrev pub EndsPlan : Plan → Type 0 → RunFailure → Type 0
+EndsPlan asked failed f = ((has_bad_harts asked.harts ≡ true) × (f ≡ Refused refusals.HartsOutOfRange))
+    ⊎ (f ≡ Refused refusals.OutOfMemory) ⊎ ((f ≡ Refused refusals.SinkFailed) × failed)

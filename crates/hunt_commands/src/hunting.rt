@@ -1,6 +1,8 @@
 ghost use Rattle.std.specs.Prelude.{◌≡◌, ◌⊎◌, ◌++◌, IfErr, IfOk, OnErr};
 ghost use Rattle.host_io.specs.Taken.{BeganText};
 ghost use Rattle.hunt_commands.specs.Asked.{AskedHunt, EndsHunt, IsHuntEnd, SetHunt, hunt_text};
+ghost use Rattle.program_files.specs.Failures.{HasFailed, IsUnprinted};
+ghost use Rattle.hunt_commands.specs.Failures.{failure_number};
 ghost use Rattle.hunt_commands.specs.Status.{hunt_status};
 
 use crate::failure::HuntFailure;
@@ -51,7 +53,11 @@ pub fn hunt_command<
     ensures begun { OnErr result ((O.took out.new ≡ O.took out.old) ⊎
         ((a : AskedHunt (F.holds files.now) (F.begins files.now) W.hunts asked.now) ×
         BeganText (O.took out.old) (O.took out.new) (hunt_text a.made))) }
-    ensures errors { IfErr result (EndsHunt (F.holds files.now) (F.begins files.now) asked.now) }
+    // After a refusal for another cause than memory and the output nothing was printed.
+    ensures unprinted { IfErr result (λ f.
+        IsUnprinted (failure_number f) (O.took out.old) (O.took out.new)) }
+    ensures errors { IfErr result (EndsHunt (F.holds files.now) (F.begins files.now) (F.lacks files.now) asked.now
+        (HasFailed O.failures O.is_stuck out.old out.new)) }
 {
     let given = read_program(files, alloc, &asked.search.program)?;
     let answer = hunt_given(threads, alloc, weakly, &given, asked, progress, out);
@@ -80,10 +86,13 @@ fn hunt_given<O: Output, W: WeakHunts, P: HuntObserver + Sync, R: Threads + Wait
     ensures begun { OnErr result ((O.took out.new ≡ O.took out.old) ⊎
         ((h : SetHunt W.hunts asked.now files.now.image.items files.now.input.items) ×
         BeganText (O.took out.old) (O.took out.new) (hunt_text h))) }
-    ensures errors { IfErr result (IsHuntEnd asked.now files.now.image.items) }
+    ensures unprinted { IfErr result (λ f.
+        IsUnprinted (failure_number f) (O.took out.old) (O.took out.new)) }
+    ensures errors { IfErr result (IsHuntEnd asked.now files.now.image.items
+        (HasFailed O.failures O.is_stuck out.old out.new)) }
 {
     let NamedBytes { bytes, fault } = named_in(alloc, &asked.search, files)?;
-    let settings = hunt_settings(alloc, asked, &bytes)?;
+    let settings = hunt_settings(alloc, asked, &bytes, &files.image)?;
     match fault {
         Some(fault) => Err(refused_for(alloc, &files.image, &settings, fault)),
         None => {

@@ -30,5 +30,5 @@ pub use repeating::{tell_bounds, weak_line_of};
 pub use settings::{named_in, program_settings, settings_of, tell_decimals};
 pub use shrinking::shrink_command;
 pub use status::hunt_status;
-pub use table_files::TableFile;
+pub use table_files::{TableFile, read_table_of};
 pub use weak_hunts::WeakHunts;

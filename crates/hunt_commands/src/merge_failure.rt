@@ -31,6 +31,7 @@ impl NumberedRefusal for MergeFailure {
         match self {
             MergeFailure::Run(failure) => failure.number(),
             MergeFailure::NotATable(_) => MergeError::NotATable.number(),
+            MergeFailure::Apart(_, _, Apart::Program) => MergeError::OtherProgram.number(),
             MergeFailure::Apart(_, _, _) => MergeError::Apart.number(),
             MergeFailure::Merge(error) => error.number(),
         }

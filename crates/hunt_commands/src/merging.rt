@@ -2,6 +2,7 @@ ghost use Rattle.std.specs.Prelude.{◌≡◌, ◌⊎◌, ◌++◌, IfErr, IfOk,
 ghost use Rattle.host_io.specs.Taken.{BeganText};
 ghost use Rattle.hunt_commands.specs.Merges.{AskedMerge, EndsMerge, IsFirstApartAt, IsMergeEnd, SetMerge, merged_text};
 ghost use Rattle.hunt_commands.specs.Status.{hunt_status};
+ghost use Rattle.program_files.specs.Failures.{HasFailed};
 
 use crate::merge_failure::MergeFailure;
 use crate::neighbours::{Apart, first_apart};
@@ -36,7 +37,8 @@ pub fn merge_command<F: Files, O: Output, M: Messages>(
     ensures begun { OnErr result ((O.took out.new ≡ O.took out.old) ⊎
         ((a : AskedMerge (F.holds files.now) asked.now) ×
         BeganText (O.took out.old) (O.took out.new) (merged_text a.made))) }
-    ensures errors { IfErr result (EndsMerge (F.holds files.now) asked.now) }
+    ensures errors { IfErr result (EndsMerge (F.holds files.now) (F.lacks files.now) asked.now
+        (HasFailed O.failures O.is_stuck out.old out.new)) }
 {
     let tables = tables_in_order(files, alloc, &asked.tables)?;
     let table = put_merged(alloc, tables, out)?;
@@ -56,7 +58,7 @@ fn put_merged<O: Output>(
         (O.took out.new ≡ O.took out.old ++ merged_text m) × (t ≡ m.table)) }
     ensures begun { OnErr result ((O.took out.new ≡ O.took out.old) ⊎
         ((m : SetMerge files.entry.items) × BeganText (O.took out.old) (O.took out.new) (merged_text m))) }
-    ensures errors { IfErr result (IsMergeEnd files.entry.items) }
+    ensures errors { IfErr result (IsMergeEnd files.entry.items (HasFailed O.failures O.is_stuck out.old out.new)) }
 {
     if let Some((index, why)) = first_apart(&files) {
         return Err(apart_at(alloc, &files, index, why)?);
@@ -73,7 +75,7 @@ fn apart_at(
     why: Apart,
 ) -> Result<MergeFailure, AllocError>
     requires { IsFirstApartAt files.now index why }
-    ensures { IfOk result (IsMergeEnd files.now) }
+    ensures { IfOk result (IsMergeEnd files.now ⊥) }
 {
     let last = String::from_str(alloc, files[index - 1].path)?;
     let next = String::from_str(alloc, files[index].path)?;

@@ -1,16 +1,16 @@
 //! Tables that go on where others end.
 ghost use Rattle.std.specs.Prelude.{◌≡◌};
 ghost use Rattle.hunt_commands.specs.Merges.{HasFirstApart, IsApartFor};
-ghost use Rattle.hunt_table.specs.Merging.{harts_of};
 
 use crate::table_files::TableFile;
-use hunt_table::{Table, are_same_ranges};
-use plan_hunt::Row;
+use hunt_table::{Table, are_same_programs, are_same_ranges, harts_of};
 use std::fmt::{self, Display, Formatter, Write};
 
 /// How a table isn't that of the slice which follows on another one.
 #[derive(Clone, Copy, Drop)]
 pub enum Apart {
+    /// It is of another program, or only one of the two tells of which it is.
+    Program,
     /// Its executions are made otherwise.
     Kind,
     /// Its hunt has another seed.
@@ -28,6 +28,10 @@ pub enum Apart {
 impl Display for Apart {
     fn fmt<W: Write>(&self, f: &mut Formatter<W>) -> Result<(), fmt::Error> {
         match self {
+            Apart::Program => write!(
+                f,
+                "it is of another program, or only one of the two tells of which it is"
+            ),
             Apart::Kind => write!(f, "one hunt is weak, and the other isn't"),
             Apart::Seed => write!(f, "it has another seed"),
             Apart::Bytes => write!(f, "it has other bytes that are seen"),
@@ -56,7 +60,9 @@ fn apart_from(last: &Table, next: &Table) -> Option<Apart>
 {
     let end = u64::from(last.header.first) + u64::from(last.header.count);
     let first = u64::from(next.header.first);
-    if next.header.is_weak != last.header.is_weak {
+    if !are_same_programs(next.header.program, last.header.program) {
+        Some(Apart::Program)
+    } else if next.header.is_weak != last.header.is_weak {
         Some(Apart::Kind)
     } else if next.header.seed != last.header.seed {
         Some(Apart::Seed)
@@ -70,15 +76,5 @@ fn apart_from(last: &Table, next: &Table) -> Option<Apart>
         Some(Apart::Overlap)
     } else {
         None
-    }
-}
-
-/// How many harts the endings have, by the first; 0 where there is none.
-fn harts_of(rows: &[Row]) -> usize
-    ensures { result ≡ harts_of rows.now }
-{
-    match rows {
-        [] => 0,
-        [first, ..] => first.ending.stops().len(),
     }
 }

@@ -2,6 +2,7 @@ ghost use Rattle.std.specs.Prelude.{◌≡◌, ◌⊎◌, ◌++◌, Err, IfErr, 
 ghost use Rattle.host_io.specs.Taken.{BeganText};
 ghost use Rattle.host_io.specs.declared.error.RunError.TheVariants as refusals;
 ghost use Rattle.hunt_commands.specs.Plans.{EndsPlan, has_bad_harts, IsAskedPlan};
+ghost use Rattle.program_files.specs.Failures.{HasFailed};
 ghost use Rattle.program_files.specs.declared.failure.RunFailure.TheVariants as failures;
 ghost use Rattle.program_files.specs.declared.exit_status.ExitStatus.TheVariants as statuses;
 
@@ -33,7 +34,7 @@ pub fn plan_command<O: Output, M: Messages>(
         ((text : List ℕ) × IsAskedPlan asked.now text × BeganText (O.took out.old) (O.took out.new) text)) }
     ensures harts { has_bad_harts asked.now.harts ≡ true →
         result ≡ Err (failures.Refused refusals.HartsOutOfRange) }
-    ensures errors { IfErr result (EndsPlan asked.now) }
+    ensures errors { IfErr result (EndsPlan asked.now (HasFailed O.failures O.is_stuck out.old out.new)) }
 {
     let plan = asked_plan(alloc, asked)?;
     put_all(out, plan.text.as_slice())?;
@@ -47,7 +48,7 @@ fn asked_plan(alloc: Global, asked: &Plan) -> Result<AskedPlan, RunFailure>
     ensures plan { IfOk result (λ p. IsAskedPlan asked.now p.text.items) }
     ensures harts { has_bad_harts asked.now.harts ≡ true →
         result ≡ Err (failures.Refused refusals.HartsOutOfRange) }
-    ensures errors { IfErr result (EndsPlan asked.now) }
+    ensures errors { IfErr result (EndsPlan asked.now ⊥) }
 {
     if asked.harts < 1 || asked.harts > MOST_HARTS {
         return Err(RunFailure::Refused(RunError::HartsOutOfRange));

@@ -186,9 +186,10 @@ fn line_of(
 ) -> Result<String, AllocError> {
     let image = quoted_path(alloc, program.image)?;
     let flat = if program.flat { " --flat" } else { "" };
+    let spurious = if program.spurious { " --spurious" } else { "" };
     let (harts, pages) = (program.harts, program.pages);
     let mut line = format!(in alloc;
-        "dethart {command} {image}{flat} --harts {harts} --pages {pages} --rounds {rounds}"
+        "dethart {command} {image}{flat}{spurious} --harts {harts} --pages {pages} --rounds {rounds}"
     )?;
     if let Some(path) = program.input {
         let input = quoted_path(alloc, path)?;

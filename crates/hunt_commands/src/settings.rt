@@ -1,9 +1,10 @@
-ghost use Rattle.std.specs.Prelude.{◌≡◌, [], IfOk, false};
+ghost use Rattle.std.specs.Prelude.{◌≡◌, [], IfOk, Some, false};
 ghost use Rattle.hunt_commands.specs.Settings.{HasEnd, HasNumbers, IsOfProgram, names_of, until_of};
+ghost use Rattle.hunt_table.specs.Programs.{fingerprint_of};
 ghost use Rattle.program_files.specs.Naming.{IsNaming, named_in, seen_ranges};
 
 use command_line::{Bytes, Hunt, HuntUntil, Program, Search};
-use hunt_table::Header;
+use hunt_table::{Fingerprint, Header};
 use hunter::HuntSettings;
 use plan_hunt::Until;
 use program_files::{
@@ -67,7 +68,7 @@ pub fn settings_of(
     Ok(settings)
 }
 
-/// What the line says of a hunt, with these bytes, which it names, to be looked at when a run ends.
+/// What the line says of a hunt of a program with this image, with these bytes, which it names, to be looked at when a run ends.
 ///
 /// # Errors
 ///
@@ -76,9 +77,11 @@ pub(crate) fn hunt_settings(
     alloc: Global,
     asked: &Hunt<'_>,
     named: &[Bytes],
+    image: &[u8],
 ) -> Result<HuntSettings, AllocError>
     ensures numbers { IfOk result (HasNumbers asked.now.search asked.now.first asked.now.plans asked.now.weak) }
     ensures ends { IfOk result (HasEnd asked.now) }
+    ensures program { IfOk result (λ s. s.header.program ≡ Some (fingerprint_of image.now)) }
     ensures ranges { IfOk result (λ s. s.header.ranges.items ≡
         seen_ranges named.now (names_of asked.now.search)) }
 {
@@ -90,6 +93,7 @@ pub(crate) fn hunt_settings(
         asked.plans,
         asked.weak,
     )?;
+    settings.header.program = Some(Fingerprint::of(image));
     settings.until = until_of(asked.until);
     settings.is_timed = asked.seconds.is_some();
     Ok(settings)
@@ -106,7 +110,8 @@ fn until_of(asked: Option<HuntUntil>) -> Until
     }
 }
 
-/// What the line says of a program, as settings of a hunt by no plan of a seed, in which no bytes are looked at.
+/// What the line says of a program, as settings of a hunt by no plan of a seed, in which no bytes are looked at, and whose table tells of no
+/// program.
 pub fn program_settings(alloc: Global, program: &Program<'_>, seed: u64) -> HuntSettings
     ensures program { IsOfProgram program.now seed result }
     ensures plain { result.header.is_weak ≡ false }
@@ -123,6 +128,7 @@ pub fn program_settings(alloc: Global, program: &Program<'_>, seed: u64) -> Hunt
             seed,
             first: 0,
             count: 0,
+            program: None,
             ranges: Vec::new(alloc),
         },
         until: Until::Done,

@@ -1,6 +1,8 @@
 ghost use Rattle.std.specs.Prelude.{◌≡◌, ◌⊎◌, ◌++◌, IfErr, IfOk, OnErr, OnOk};
 ghost use Rattle.host_io.specs.Taken.{BeganText};
-ghost use Rattle.hunt_commands.specs.Asked.{IsFileEnd};
+ghost use Rattle.hunt_commands.specs.Asked.{IsCutEnd};
+ghost use Rattle.program_files.specs.Failures.{HasFailed, IsUnprinted};
+ghost use Rattle.hunt_commands.specs.Failures.{failure_number};
 ghost use Rattle.hunt_commands.specs.Shrinks.{AskedShrink, EndsShrink, IsShrinkEnd, SetShrink, shrunk_text};
 ghost use Rattle.program_files.specs.declared.exit_status.ExitStatus.TheVariants as statuses;
 ghost use Rattle.round_planner.specs.PlanText.{plan_text};
@@ -49,7 +51,11 @@ pub fn shrink_command<
     ensures begun { OnErr result ((O.took out.new ≡ O.took out.old) ⊎
         ((a : AskedShrink (F.holds files.now) (F.begins files.now) asked.now) ×
         BeganText (O.took out.old) (O.took out.new) (shrunk_text a.made))) }
-    ensures errors { IfErr result (EndsShrink (F.holds files.now) (F.begins files.now) asked.now) }
+    // After a refusal for another cause than memory and the output nothing was printed.
+    ensures unprinted { IfErr result (λ f.
+        IsUnprinted (failure_number f) (O.took out.old) (O.took out.new)) }
+    ensures errors { IfErr result (EndsShrink (F.holds files.now) (F.begins files.now) (F.lacks files.now) asked.now
+        (HasFailed O.failures O.is_stuck out.old out.new)) }
 {
     let given = read_program(files, alloc, &asked.search.program)?;
     let plan = shrink_given(threads, alloc, &given, asked, progress)?;
@@ -92,7 +98,9 @@ fn put_plan<O: Output>(alloc: Global, plan: &Plan, out: &mut O) -> Result<(), Hu
     ensures puts { OnOk result (O.took out.new ≡ O.took out.old ++ plan_text plan.now.rows) }
     ensures begun { OnErr result ((O.took out.new ≡ O.took out.old) ⊎
         BeganText (O.took out.old) (O.took out.new) (plan_text plan.now.rows)) }
-    ensures errors { IfErr result IsFileEnd }
+    ensures unprinted { IfErr result (λ f.
+        IsUnprinted (failure_number f) (O.took out.old) (O.took out.new)) }
+    ensures errors { IfErr result (IsCutEnd (HasFailed O.failures O.is_stuck out.old out.new)) }
 {
     let text = plan.text(alloc)?;
     put_all(out, text.as_slice())?;

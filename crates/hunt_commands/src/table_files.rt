@@ -30,7 +30,7 @@ pub(crate) fn tables_in_order<'a, F: Files>(
     paths: &[&'a str],
 ) -> Result<Vec<TableFile<'a>>, MergeFailure>
     ensures tables { IfOk result (λ v. AreTables (F.holds files.now) (map (λ s. s.now) paths.now) v.items) }
-    ensures errors { IfErr result (IsReadEnd (F.holds files.now) (map (λ s. s.now) paths.now)) }
+    ensures errors { IfErr result (IsReadEnd (F.holds files.now) (F.lacks files.now) (map (λ s. s.now) paths.now)) }
 {
     let mut tables = read_tables(files, alloc, paths)?;
     tables.sort_by_key(|file| file.table.header.first)?;
@@ -44,7 +44,7 @@ fn read_tables<'a, F: Files>(
     paths: &[&'a str],
 ) -> Result<Vec<TableFile<'a>>, MergeFailure>
     ensures read { IfOk result (λ v. AreRead (F.holds files.now) (map (λ s. s.now) paths.now) v.items) }
-    ensures errors { IfErr result (IsReadEnd (F.holds files.now) (map (λ s. s.now) paths.now)) }
+    ensures errors { IfErr result (IsReadEnd (F.holds files.now) (F.lacks files.now) (map (λ s. s.now) paths.now)) }
 {
     let mut tables = Vec::new(alloc);
     for path in paths {
@@ -54,14 +54,18 @@ fn read_tables<'a, F: Files>(
 }
 
 /// Reads the table of the file of a path.
-fn read_table_of<'a, F: Files>(
+///
+/// # Errors
+///
+/// `Run` where the file can't be read, `NotATable` where it has no table; the refusal of memory at any time.
+pub fn read_table_of<'a, F: Files>(
     files: &F,
     alloc: Global,
     path: &'a str,
 ) -> Result<TableFile<'a>, MergeFailure>
     ensures path { IfOk result (λ f. f.path.now ≡ path.now) }
     ensures held { IfOk result (HoldsTable (F.holds files.now)) }
-    ensures errors { IfErr result (IsUntabled (F.holds files.now) path.now) }
+    ensures errors { IfErr result (IsUntabled (F.holds files.now) (F.lacks files.now) path.now) }
 {
     let text = read_file(files, alloc, path)?;
     match read_table(alloc, &text) {

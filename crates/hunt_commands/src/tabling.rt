@@ -1,4 +1,4 @@
-ghost use Rattle.std.specs.Prelude.{◌≡◌, ◌⊎◌, ◌++◌, Err, IfErr, IfOk, List, None, OnErr, Some, false, ℕ};
+ghost use Rattle.std.specs.Prelude.{◌≡◌, ◌⊎◌, ◌<◌, ◌++◌, Err, IfErr, IfOk, List, None, OnErr, Some, false, ℕ};
 ghost use Rattle.host_io.specs.Taken.{BeganText};
 ghost use Rattle.host_io.specs.declared.load_error.LoadError.{LoadError as ImageCause};
 ghost use Rattle.host_io.specs.declared.error.RunError.TheVariants as refusals;
@@ -8,6 +8,8 @@ ghost use Rattle.hunter.specs.Hunts.{IsImageCause, has_bad_range, hunt_fault};
 ghost use Rattle.hunter.specs.declared.error.HuntError.{HuntError as Refusal};
 ghost use Rattle.hunter.specs.declared.error.HuntError.TheVariants as hunting;
 ghost use Rattle.plan_hunt.specs.declared.row.Row.{Row as TableRow};
+ghost use Rattle.program_files.specs.Failures.{IsUnprinted};
+ghost use Rattle.weak_hunter.specs.Refusals.{weak_hunt_number};
 ghost use Rattle.weak_hunter.specs.declared.error.WeakHuntError.TheVariants.{Hunt};
 
 use crate::weak_hunts::WeakHunts;
@@ -38,9 +40,12 @@ pub(crate) fn write_rows<S: Sink, W: WeakHunts, O: HuntObserver + Sync, R: Threa
         ((n : ℕ) × (rows : List TableRow) × IsTableBy W.hunts steps settings.now.header.is_weak settings.now
         files.now.image.items files.now.input.items n rows ×
         BeganText (S.took out.old) (S.took out.new) (table_text (with_count settings.now.header n) rows))) }
+    ensures unprinted { IfErr result (λ e.
+        IsUnprinted (weak_hunt_number e) (S.took out.old) (S.took out.new)) }
     ensures settings { (e : Refusal) → hunt_fault settings.now ≡ Some e → result ≡ Err (Hunt e) }
     ensures errors { hunt_fault settings.now ≡ None → IfErr result
-        (IsHuntRefusal settings.now.header.is_weak settings.now files.now.image.items) }
+        (IsHuntRefusal settings.now.header.is_weak settings.now files.now.image.items
+        (S.failures out.old < S.failures out.new)) }
     ensures image { (cause : ImageCause) → hunt_fault settings.now ≡ None →
         IsImageCause settings.now files.now.image.items cause →
         (result ≡ Err (Hunt (hunting.Run (refusals.Image cause)))) ⊎

@@ -1,5 +1,5 @@
 ghost use denote.Param.Send.{IsSync};
-ghost use Rattle.std.specs.Prelude.{◌≡◌, ◌⊎◌, ◌++◌, ℕ, Err, IfErr, IfOk, List, None, OnErr, Some, false, true};
+ghost use Rattle.std.specs.Prelude.{◌≡◌, ◌⊎◌, ◌<◌, ◌++◌, ℕ, Err, IfErr, IfOk, List, None, OnErr, Some, false, true};
 ghost use Rattle.host_io.specs.Taken.{BeganText};
 ghost use Rattle.host_io.specs.declared.load_error.LoadError.{LoadError as ImageCause};
 ghost use Rattle.host_io.specs.declared.error.RunError.TheVariants as refusals;
@@ -9,6 +9,8 @@ ghost use Rattle.hunter.specs.declared.error.HuntError.{HuntError as Refusal};
 ghost use Rattle.hunter.specs.declared.error.HuntError.TheVariants as hunting;
 ghost use Rattle.hunter.specs.declared.settings.HuntSettings.{HuntSettings as AskedFor};
 ghost use Rattle.plan_hunt.specs.declared.row.Row.{Row as TableRow};
+ghost use Rattle.program_files.specs.Failures.{IsUnprinted};
+ghost use Rattle.weak_hunter.specs.Refusals.{weak_hunt_number};
 ghost use Rattle.weak_hunter.specs.WeakHunts.{IsWeakReason, IsWeaklyHunted};
 ghost use Rattle.weak_hunter.specs.declared.error.WeakHuntError.TheVariants.{Hunt};
 
@@ -51,9 +53,12 @@ pub trait WeakHunts {
             ((n : ℕ) × (rows : List TableRow) × IsWeaklyHunted settings.now image.now input.now n rows ×
             hunts settings.now image.now input.now steps n rows ×
             BeganText (S.took out.old) (S.took out.new) (table_text (with_count settings.now.header n) rows))) }
+        ensures unprinted { IfErr result (λ e.
+            IsUnprinted (weak_hunt_number e) (S.took out.old) (S.took out.new)) }
         ensures settings { (e : Refusal) → hunt_fault settings.now ≡ Some e → result ≡ Err (Hunt e) }
         ensures errors { hunt_fault settings.now ≡ None → IfErr result (λ e.
-            IsWeakReason settings.now image.now e ⊎ (e ≡ Hunt (hunting.Run refusals.SinkFailed))) }
+            IsWeakReason settings.now image.now e ⊎
+            ((e ≡ Hunt (hunting.Run refusals.SinkFailed)) × (S.failures out.old < S.failures out.new))) }
         ensures image { (cause : ImageCause) → hunt_fault settings.now ≡ None →
             IsImageCause settings.now image.now cause →
             (result ≡ Err (Hunt (hunting.Run (refusals.Image cause)))) ⊎

@@ -1,12 +1,13 @@
 -- A text that is printed piece by piece.
-use Rattle.std.proofs.Common.{◌≡◌, ◌∙◌, ◌⊎◌, ◌++◌, ◌+◌, [], ℕ, Err, IfErr, List, Ok, OnOk, Result, append-nil, append_assoc, ap, arith, inl, inr, length, length-append, refl, subst, sym, take}
+use Rattle.std.proofs.Common.{◌≡◌, ◌∙◌, ◌++◌, ◌+◌, ◌<◌, [], ℕ, Err, OnErr, List, Ok, OnOk, Result, append-nil, append_assoc, ap, arith, inr, length, length-append, refl, subst, sym, take}
 use Rattle.std.proofs.Math.Seq.{take-append-add}
 use Rattle.std.proofs.lemmas.List.{take-append-le}
-use Rattle.std.proofs.lemmas.Result.{on_err_weaker, on_ok_weaker}
-use Rattle.host_io.specs.Taken.{BeganText, WritesText}
+use Rattle.std.proofs.lemmas.Result.{IfErr-weaker, on_err_weaker, on_ok_weaker}
+use Rattle.host_io.specs.Taken.{BeganText}
 use Rattle.host_io.specs.declared.error.RunError.{RunError}
-use Rattle.host_io.specs.declared.error.RunError.TheVariants.{OutOfMemory, SinkFailed}
+use Rattle.host_io.specs.declared.error.RunError.TheVariants.{SinkFailed}
 use Rattle.past_commands.specs.Watched.{Prints}
+use Rattle.program_files.specs.Failures.{IsCutOff}
 
 -- ---- beginnings
 
@@ -30,54 +31,77 @@ began_second old mid new a b e h = record {
       ∙ ap (λ (t : List ℕ). old ++ t) (sym (take-append-add a b h.count));
 }
 
+-- ---- failures
+
+-- what cut a call off cuts off the whole, where the output hadn't failed before
+pub since_before : (failed failed_mid failed_then : ℕ) (e : RunError) → failed_mid ≡ failed → IsCutOff (failed_mid < failed_then) e → IsCutOff (failed < failed_then) e
+since_before failed failed_mid failed_then e same h = subst (λ (n : ℕ). IsCutOff (n < failed_then) e) same h
+
 -- ---- calls
 
-pub prints_so : (text old : List ℕ) (f g : ℕ) (r : Result (Unit {0}) RunError) (new : List ℕ) → WritesText text old f r new g → Prints text old r new
-prints_so text old f g r new w = record { done = w.ok; begun = w.begun; errors = w.errors }
+-- a text that was put at once
+pub prints_put : (text bytes old : List ℕ) (failed : ℕ) (r : Result (Unit {0}) RunError) (new : List ℕ) (failed_then : ℕ) → bytes ≡ text →
+    OnOk r (new ≡ old ++ bytes) → OnErr r (BeganText old new bytes) → OnErr r (failed < failed_then) → OnErr r (r ≡ Err SinkFailed) → OnOk r (failed_then ≡ failed) →
+    Prints text old failed r new failed_then
+prints_put text bytes old failed (Ok v) new failed_then is done begun fails only counts =
+    record { done = done ∙ ap (λ (t : List ℕ). old ++ t) is; counts = counts; begun = tt; errors = tt }
+prints_put text bytes old failed (Err e) new failed_then is done begun fails only counts =
+    record { done = tt; counts = tt; begun = subst (λ (t : List ℕ). BeganText old new t) is begun; errors = inr (same only, fails) }
+  where
+    same : ◌≡◌ {A = Result (Unit {0}) RunError} (Err e) (Err SinkFailed) → e ≡ SinkFailed
+    same q = cc
 
 -- a call that failed printed so much
-pub failed_so : {X : Type 0} (text old new : List ℕ) (r : Result X RunError) (e : RunError) → r ≡ Err e → BeganText old new text → (e ≡ OutOfMemory) ⊎ (e ≡ SinkFailed) → Prints text old r new
-failed_so {X} text old new r e is begun cause =
-    subst (λ (x : Result X RunError). Prints text old x new) (sym is) (record { done = tt; begun = begun; errors = cause })
+pub failed_so : {X : Type 0} (text old : List ℕ) (failed : ℕ) (new : List ℕ) (failed_then : ℕ) (r : Result X RunError) (e : RunError) → r ≡ Err e →
+    BeganText old new text → IsCutOff (failed < failed_then) e → Prints text old failed r new failed_then
+failed_so {X} text old failed new failed_then r e is begun cause =
+    subst (λ (x : Result X RunError). Prints text old failed x new failed_then) (sym is) (record { done = tt; counts = tt; begun = begun; errors = cause })
 
 -- what a call that failed printed, and why
-pub begun_by : {X : Type 0} (text old new : List ℕ) (e : RunError) → Prints {X = X} text old (Err e) new → BeganText old new text
-begun_by text old new e p = p.begun
+pub begun_by : {X : Type 0} (text old : List ℕ) (failed : ℕ) (new : List ℕ) (failed_then : ℕ) (e : RunError) → Prints {X = X} text old failed (Err e) new failed_then → BeganText old new text
+begun_by text old failed new failed_then e p = p.begun
 
-pub cause_by : {X : Type 0} (text old new : List ℕ) (e : RunError) → Prints {X = X} text old (Err e) new → (e ≡ OutOfMemory) ⊎ (e ≡ SinkFailed)
-cause_by text old new e p = p.errors
+pub cause_by : {X : Type 0} (text old : List ℕ) (failed : ℕ) (new : List ℕ) (failed_then : ℕ) (e : RunError) → Prints {X = X} text old failed (Err e) new failed_then →
+    IsCutOff (failed < failed_then) e
+cause_by text old failed new failed_then e p = p.errors
 
 -- the second part comes behind the first
-pub prints_second : {X : Type 0} (a b old mid new : List ℕ) (r : Result X RunError) → mid ≡ old ++ a → Prints b mid r new → Prints (a ++ b) old r new
-prints_second a b old mid new r e p = record {
+pub prints_second : {X : Type 0} (a b old mid new : List ℕ) (failed failed_mid failed_then : ℕ) (r : Result X RunError) → mid ≡ old ++ a → failed_mid ≡ failed →
+    Prints b mid failed_mid r new failed_then → Prints (a ++ b) old failed r new failed_then
+prints_second a b old mid new failed failed_mid failed_then r e same p = record {
   done = on_ok_weaker r (λ h. h ∙ ap (λ (m : List ℕ). m ++ b) e ∙ append_assoc old a b) p.done;
+  counts = on_ok_weaker r (λ h. h ∙ same) p.counts;
   begun = on_err_weaker r (λ h. began_second old mid new a b e h) p.begun;
-  errors = p.errors;
+  errors = IfErr-weaker r _ _ (λ d h. since_before failed failed_mid failed_then d same h) p.errors;
 }
 
 -- ---- a loop
 
--- of the whole text this is left, and the rest is out
-pub record Halfway (old new all left : List ℕ) : Type 0 where
+-- of the whole text this is left, and the rest is out; the output hasn't failed
+pub record Halfway (old new all left : List ℕ) (failed failed_then : ℕ) : Type 0 where
   pub front : List ℕ
   pub took : new ≡ old ++ front
   pub both : front ++ left ≡ all
+  pub counts : failed_then ≡ failed
 
-pub halfway_first : (old all : List ℕ) → Halfway old old all all
-halfway_first old all = record { front = []; took = sym (append-nil old); both = refl }
+pub halfway_first : (old all : List ℕ) (failed : ℕ) → Halfway old old all all failed failed
+halfway_first old all failed = record { front = []; took = sym (append-nil old); both = refl; counts = refl }
 
-pub halfway_next : (old mid new all left line rest : List ℕ) → Halfway old mid all left → left ≡ line ++ rest → new ≡ mid ++ line → Halfway old new all rest
-halfway_next old mid new all left line rest h e n = record {
+pub halfway_next : (old mid new all left line rest : List ℕ) (failed failed_mid failed_then : ℕ) → Halfway old mid all left failed failed_mid → left ≡ line ++ rest →
+    new ≡ mid ++ line → failed_then ≡ failed_mid → Halfway old new all rest failed failed_then
+halfway_next old mid new all left line rest failed failed_mid failed_then h e n same = record {
   front = h.front ++ line;
   took = n ∙ ap (λ (m : List ℕ). m ++ line) h.took ∙ append_assoc old h.front line;
   both = append_assoc h.front line rest ∙ ap (λ (t : List ℕ). h.front ++ t) (sym e) ∙ h.both;
+  counts = same ∙ h.counts;
 }
 
-pub halfway_stops : (old mid new all left line rest : List ℕ) → Halfway old mid all left → left ≡ line ++ rest → BeganText mid new line → BeganText old new all
-halfway_stops old mid new all left line rest h e b =
+pub halfway_stops : (old mid new all left line rest : List ℕ) (failed failed_mid : ℕ) → Halfway old mid all left failed failed_mid → left ≡ line ++ rest →
+    BeganText mid new line → BeganText old new all
+halfway_stops old mid new all left line rest failed failed_mid h e b =
     subst (λ (t : List ℕ). BeganText old new t) (ap (λ (t : List ℕ). h.front ++ t) (sym e) ∙ h.both)
     (began_second old mid new h.front (line ++ rest) h.took (began_first mid new line rest b))
 
-pub halfway_last : (old new all left : List ℕ) → Halfway old new all left → left ≡ [] → new ≡ old ++ all
-halfway_last old new all left h e =
+pub halfway_last : (old new all left : List ℕ) (failed failed_then : ℕ) → Halfway old new all left failed failed_then → left ≡ [] → new ≡ old ++ all
+halfway_last old new all left failed failed_then h e =
     h.took ∙ ap (λ (t : List ℕ). old ++ t) (sym (append-nil h.front) ∙ ap (λ (t : List ℕ). h.front ++ t) (sym e) ∙ h.both)

@@ -65,5 +65,5 @@ pub record IsExecutionAnswer (text : List ℕ) (asked : Replay) (a : Answer) : T
   pub no_rounds : asked.round ≡ None
   pub workers : AreWorkers asked.workers
   pub checked : Checked
-  pub found : IsFound (guest_in file) file.harts file.order (step_asked asked.hart asked.place) checked.finding checked
+  pub found : IsFound (guest_in file) file (step_asked asked.hart asked.place) checked.finding checked
   pub answer : IsCheckedAnswer file asked checked a

@@ -18,6 +18,7 @@ use Rattle.past_commands.specs.declared.past.Past.{Past}
 use Rattle.past_commands.specs.declared.past.Past.TheVariants.{Execution, Recording}
 use Rattle.program_files.specs.declared.failure.RunFailure.{RunFailure}
 use Rattle.program_files.specs.declared.failure.RunFailure.TheVariants as runs
+use Rattle.program_files.specs.declared.files.FileFault.{FileFault}
 use Rattle.recording.specs.Recorded.{Recorded}
 use Rattle.round_schedule.specs.Bounds.{AreNoWorkers, AreWorkers}
 use Rattle.replayer.specs.Refusals.{RefusedInOrder}
@@ -88,15 +89,16 @@ abbrev pub EndsWatchOf : Past → Watch → PastFailure → Type 0
 EndsWatchOf (Recording r) asked f = EndsWatching r asked f
 EndsWatchOf (Execution text) asked f = EndsExecutionWatch text.items asked f
 
--- the output can't be written
-abbrev pub IsOutput : PastFailure → Type 0
-IsOutput f = f ≡ Run (runs.Refused refusals.SinkFailed)
+-- the output failed
+abbrev pub IsOutput : Type 0 → PastFailure → Type 0
+IsOutput failed f = (f ≡ Run (runs.Refused refusals.SinkFailed)) × failed
 
--- why `replay` ends without an answer: nothing was read of the file, what it holds has none, or the output can't be written
-abbrev pub EndsReplay : (List ℕ → List ℕ → List ℕ → List ℕ → Type 0) → Replay → PastFailure → Type 0
-EndsReplay either asked f = EndsReading either asked.recording.now f ⊎ IsOutput f ⊎ ((past : Past) × HoldsPast either asked.recording.now past × EndsReplayOf past asked f)
+-- why `replay` ends without an answer: nothing was read of the file, what it holds has none, or the output failed
+abbrev pub EndsReplay : (List ℕ → List ℕ → List ℕ → List ℕ → Type 0) → (List ℕ → FileFault → Type 0) → Replay → Type 0 → PastFailure → Type 0
+EndsReplay either lacks asked failed f =
+    EndsReading either lacks asked.recording.now f ⊎ IsOutput failed f ⊎ ((past : Past) × HoldsPast either asked.recording.now past × EndsReplayOf past asked f)
 
 -- and `watch`
-abbrev pub EndsWatch : (List ℕ → List ℕ → List ℕ → List ℕ → Type 0) → Watch → PastFailure → Type 0
-EndsWatch either asked f =
-    EndsReading either asked.recording.now f ⊎ IsOutput f ⊎ (f ≡ out_of_memory) ⊎ ((past : Past) × HoldsPast either asked.recording.now past × EndsWatchOf past asked f)
+abbrev pub EndsWatch : (List ℕ → List ℕ → List ℕ → List ℕ → Type 0) → (List ℕ → FileFault → Type 0) → Watch → Type 0 → PastFailure → Type 0
+EndsWatch either lacks asked failed f =
+    EndsReading either lacks asked.recording.now f ⊎ IsOutput failed f ⊎ (f ≡ out_of_memory) ⊎ ((past : Past) × HoldsPast either asked.recording.now past × EndsWatchOf past asked f)

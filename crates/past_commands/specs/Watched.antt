@@ -1,11 +1,11 @@
 -- What `watch` prints.
-use Rattle.std.specs.Prelude.{◌≡◌, ◌⊎◌, ℕ, List, [], ◌∷◌, ◌++◌, codes, drop, length, slice_get, Option, Some, None, Result, IfErr, OnErr, OnOk}
+use Rattle.std.specs.Prelude.{◌≡◌, ◌<◌, ℕ, List, [], ◌∷◌, ◌++◌, codes, drop, length, slice_get, Option, Some, None, Result, IfErr, OnErr, OnOk}
 use Rattle.host_io.specs.Taken.{BeganText}
 use Rattle.host_io.specs.declared.error.RunError.{RunError}
-use Rattle.host_io.specs.declared.error.RunError.TheVariants.{OutOfMemory, SinkFailed}
 use Rattle.past_commands.specs.Answers.{number_line}
 use Rattle.past_commands.specs.declared.watched.Watched.{Watched}
 use Rattle.past_commands.specs.declared.watched.Watched.TheVariants.{Hits, Refused}
+use Rattle.program_files.specs.Failures.{IsCutOff}
 use Rattle.program_files.specs.declared.exit_status.ExitStatus.{ExitStatus}
 use Rattle.program_files.specs.declared.exit_status.ExitStatus.TheVariants.{Done}
 use Rattle.report_lines.specs.Text.{event_text}
@@ -43,8 +43,10 @@ abbrev pub watched_status : Watched → ExitStatus
 watched_status (Hits hits) = Done
 watched_status (Refused a) = a.status
 
--- a call prints a text: with Ok all of it came after what was there; else a beginning of it, for want of memory or for the output
-pub record Prints {X : Type 0} (text old : List ℕ) (r : Result X RunError) (new : List ℕ) : Type 0 where
+-- a call prints a text: with Ok all of it came after what was there, and the output didn't fail; else a beginning of it, for want of memory or
+-- since the output failed
+pub record Prints {X : Type 0} (text old : List ℕ) (failed : ℕ) (r : Result X RunError) (new : List ℕ) (failed_then : ℕ) : Type 0 where
   pub done : OnOk r (new ≡ old ++ text)
+  pub counts : OnOk r (failed_then ≡ failed)
   pub begun : OnErr r (BeganText old new text)
-  pub errors : IfErr r (λ e. (e ≡ OutOfMemory) ⊎ (e ≡ SinkFailed))
+  pub errors : IfErr r (IsCutOff (failed < failed_then))

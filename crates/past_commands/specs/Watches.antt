@@ -121,7 +121,7 @@ pub record IsExecutionWatch (text : List ℕ) (asked : Watch) (w : Watched) : Ty
   pub no_to : asked.to ≡ None
   pub workers : AreWorkers asked.workers
   pub checked : Checked
-  pub found : IsFound (guest_in file) file.harts file.order None checked.finding checked
+  pub found : IsFound (guest_in file) file None checked.finding checked
   pub watch : IsCheckedWatch file asked checked w
 
 -- ---- of what a file holds

@@ -27,7 +27,7 @@ pub enum Past {
 /// neither, or is no recording.
 pub fn read_past<F: PastFiles>(files: &F, alloc: Global, path: &str) -> Result<Past, PastFailure>
     ensures holds { IfOk result (HoldsPast (F.either files.now) path.now) }
-    ensures errors { IfErr result (EndsReading (F.either files.now) path.now) }
+    ensures errors { IfErr result (EndsReading (F.either files.now) (F.lacks files.now) path.now) }
 {
     let text = match files.read_either(path, b"RVDETREC", b"executio") {
         Ok(text) => text,

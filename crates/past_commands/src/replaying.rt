@@ -1,6 +1,8 @@
 //! The command `replay`.
 ghost use Rattle.std.specs.Prelude.{◌≡◌, ◌⊎◌, ◌++◌, IfErr, IfOk, OnErr};
 ghost use Rattle.host_io.specs.Taken.{BeganText};
+ghost use Rattle.program_files.specs.Failures.{HasFailed, IsUnprinted};
+ghost use Rattle.past_commands.specs.Failures.{failure_number};
 ghost use Rattle.past_commands.specs.Questions.{question_of};
 ghost use Rattle.past_commands.specs.Refused.{EndsReplay, EndsReplayOf, EndsReplaying, IsOutput, IsRefusedRun};
 ghost use Rattle.past_commands.specs.Replays.{AskedReplay, IsHartAnswer, IsRecordingAnswer, IsReplayAnswer, IsVerdictAnswer};
@@ -55,7 +57,11 @@ pub fn replay_command<
     // Else nothing was printed, or a beginning of such an answer.
     ensures begun { OnErr result ((O.took out.new ≡ O.took out.old) ⊎ ((a : AskedReplay (F.either files.now) asked.now) ×
         BeganText (O.took out.old) (O.took out.new) a.answer.text)) }
-    ensures errors { IfErr result (EndsReplay (F.either files.now) asked.now) }
+    // After a refusal for another cause than memory and the output nothing was printed.
+    ensures unprinted { IfErr result (λ f.
+        IsUnprinted (failure_number f) (O.took out.old) (O.took out.new)) }
+    ensures errors { IfErr result (EndsReplay (F.either files.now) (F.lacks files.now) asked.now
+        (HasFailed O.failures O.is_stuck out.old out.new)) }
 {
     let past = read_past(files, alloc, asked.recording)?;
     let answer = replay_past(threads, alloc, &past, asked, progress)?;
@@ -74,7 +80,7 @@ fn print_answer<O: Output>(answer: &Answer, out: &mut O) -> Result<ExitStatus, P
     ensures printed { IfOk result (λ status. (O.took out.new ≡ O.took out.old ++ answer.now.text) ×
         O.is_out out.new × (status ≡ answer.now.status)) }
     ensures begun { OnErr result (BeganText (O.took out.old) (O.took out.new) answer.now.text) }
-    ensures errors { IfErr result IsOutput }
+    ensures errors { IfErr result (IsOutput (HasFailed O.failures O.is_stuck out.old out.new)) }
 {
     put_all(out, answer.text.as_bytes())?;
     out.hand_on()?;

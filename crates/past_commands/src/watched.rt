@@ -1,15 +1,15 @@
 //! What `watch` prints.
-ghost use Rattle.std.specs.Prelude.{◌≡◌, ◌++◌, IfOk, OnErr};
-ghost use Rattle.host_io.specs.Taken.{BeganText, WritesText};
+ghost use Rattle.std.specs.Prelude.{◌≡◌, IfOk};
 ghost use Rattle.past_commands.specs.Watched.{Prints, hit_line, hits_lines, hits_text, pc_at, watched_status, watched_text};
 
 use crate::answer::{Answer, number_line};
 use host_io::{RunError, Sink, put_all};
+use pages::OutOfMemory;
 use program_files::ExitStatus;
 use replayer::Hit;
-use report::write_event;
+use report_lines::{Line, Tail, event_line};
 use std::alloc::Global;
-use trace_events::write_event_with_pc;
+use trace_events::located_line;
 
 /// The accesses that hit.
 #[derive(Drop)]
@@ -35,7 +35,7 @@ pub(crate) fn print_watched<S: Sink>(
     watched: &Watched,
     out: &mut S,
 ) -> Result<ExitStatus, RunError>
-    ensures prints { Prints (watched_text watched.now) (S.took out.old) result (S.took out.new) }
+    ensures prints { Prints (watched_text watched.now) (S.took out.old) (S.failures out.old) result (S.took out.new) (S.failures out.new) }
     ensures status { IfOk result (λ status. status ≡ watched_status watched.now) }
 {
     match watched {
@@ -57,7 +57,7 @@ fn print_hits<S: Sink>(
     pcs: &[Option<u64>],
     out: &mut S,
 ) -> Result<(), RunError>
-    ensures { Prints (hits_text hits.now pcs.now) (S.took out.old) result (S.took out.new) }
+    ensures { Prints (hits_text hits.now pcs.now) (S.took out.old) (S.failures out.old) result (S.took out.new) (S.failures out.new) }
 {
     let line = number_line(alloc, "hits ", hits.len() as u64)?;
     put_all(out, line.as_bytes())?;
@@ -71,7 +71,7 @@ fn print_lines<S: Sink>(
     pcs: &[Option<u64>],
     out: &mut S,
 ) -> Result<(), RunError>
-    ensures { Prints (hits_lines hits.now pcs.now) (S.took out.old) result (S.took out.new) }
+    ensures { Prints (hits_lines hits.now pcs.now) (S.took out.old) (S.failures out.old) result (S.took out.new) (S.failures out.new) }
 {
     for (number, hit) in hits.iter().enumerate() {
         print_hit(alloc, hit, pc_at(pcs, number), out)?;
@@ -89,17 +89,27 @@ fn pc_at(pcs: &[Option<u64>], number: usize) -> Option<u64>
     }
 }
 
-/// Prints the line of a hit.
+/// Prints the line of a hit, with its pc if that is known.
 fn print_hit<S: Sink>(
     alloc: Global,
     hit: &Hit,
     pc: Option<u64>,
     out: &mut S,
 ) -> Result<(), RunError>
-    ensures { Prints (hit_line pc hit.now) (S.took out.old) result (S.took out.new) }
+    ensures { Prints (hit_line pc hit.now) (S.took out.old) (S.failures out.old) result (S.took out.new) (S.failures out.new) }
 {
+    let line = hit_line(alloc, hit, pc)?;
+    put_all(out, line.as_bytes())
+}
+
+/// The line of a hit, with its pc if that is known.
+fn hit_line(alloc: Global, hit: &Hit, pc: Option<u64>) -> Result<Line, OutOfMemory>
+    ensures { IfOk result (λ line. line ≡ hit_line pc hit.now) }
+{
+    let mut line = Line::new(alloc);
     match pc {
-        Some(pc) => write_event_with_pc(alloc, hit, pc, out),
-        None => write_event(alloc, hit, out),
+        Some(pc) => located_line(alloc, &mut line, hit, pc)?,
+        None => event_line(&mut line, &mut Tail::new(), hit)?,
     }
+    Ok(line)
 }

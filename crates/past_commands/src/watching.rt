@@ -1,7 +1,8 @@
 //! The command `watch`.
 ghost use Rattle.std.specs.Prelude.{◌≡◌, ◌⊎◌, ◌++◌, IfErr, IfOk, OnErr};
 ghost use Rattle.host_io.specs.Taken.{BeganText};
-ghost use Rattle.past_commands.specs.Failures.{out_of_memory};
+ghost use Rattle.program_files.specs.Failures.{HasFailed, IsUnprinted};
+ghost use Rattle.past_commands.specs.Failures.{failure_number, out_of_memory};
 ghost use Rattle.past_commands.specs.Refused.{EndsWatch, EndsWatchOf, EndsWatching, IsOutput, IsRefusal, IsRefusedRun};
 ghost use Rattle.past_commands.specs.Watched.{watched_status, watched_text};
 ghost use Rattle.past_commands.specs.Watches.{AreRunHits, AskedWatch, IsRecordingWatch, IsWatch, pcs_told};
@@ -56,7 +57,11 @@ pub fn watch_command<
     // Else nothing was printed, or a beginning of that.
     ensures begun { OnErr result ((O.took out.new ≡ O.took out.old) ⊎ ((a : AskedWatch (F.either files.now) asked.now) ×
         BeganText (O.took out.old) (O.took out.new) (watched_text a.watched))) }
-    ensures errors { IfErr result (EndsWatch (F.either files.now) asked.now) }
+    // After a refusal for another cause than memory and the output nothing was printed.
+    ensures unprinted { IfErr result (λ f.
+        IsUnprinted (failure_number f) (O.took out.old) (O.took out.new)) }
+    ensures errors { IfErr result (EndsWatch (F.either files.now) (F.lacks files.now) asked.now
+        (HasFailed O.failures O.is_stuck out.old out.new)) }
 {
     let past = read_past(files, alloc, asked.recording)?;
     let watched = watch_past(threads, alloc, &past, asked, progress)?;
@@ -79,7 +84,7 @@ fn hand_on_watched<O: Output>(
     ensures printed { IfOk result (λ status. (O.took out.new ≡ O.took out.old ++ watched_text watched.now) ×
         O.is_out out.new × (status ≡ watched_status watched.now)) }
     ensures begun { OnErr result (BeganText (O.took out.old) (O.took out.new) (watched_text watched.now)) }
-    ensures errors { IfErr result (λ f. IsOutput f ⊎ (f ≡ out_of_memory)) }
+    ensures errors { IfErr result (λ f. IsOutput (HasFailed O.failures O.is_stuck out.old out.new) f ⊎ (f ≡ out_of_memory)) }
 {
     let status = print_watched(alloc, watched, out)?;
     out.hand_on()?;

@@ -1,5 +1,5 @@
 -- Rounds up to the next one.
-use Rattle.std.proofs.Common.{◌≡◌, ◌⊎◌, inl, inr, ℕ, ◌+◌, ◌<◌, arith, subst}
+use Rattle.std.proofs.Common.{◌≡◌, inl, inr, ℕ, ◌+◌, ◌<◌, arith, subst}
 use Rattle.std.proofs.lemmas.Bool.{cases_lt}
 
 -- what holds below a number, and of it, holds below the next

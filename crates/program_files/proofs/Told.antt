@@ -60,11 +60,11 @@ in_order_at s image e o = record {
 }
 
 -- a refusal that is told is that of the run
-pub told_refusal : {X : Type 0} (program : Program) (text : List ℕ) (budget : ℕ) (image : List ℕ) (s : Settings) (a : Result X RunError) (b : Result X RunFailure) →
+pub told_refusal : {X : Type 0} (failed : Type 0) (program : Program) (text : List ℕ) (budget : ℕ) (image : List ℕ) (s : Settings) (a : Result X RunError) (b : Result X RunFailure) →
     HasSettings program text budget s → IsTold a b → RefusedInOrder s image a →
-    (settings_fault s ≡ None → IfErr a (λ e. IsReason s image e ⊎ (e ≡ refusals.SinkFailed))) → IfErr b (RefusedSetRun program text budget image)
-told_refusal program text budget image s (Ok v) (Ok w) set e order errors = tt
-told_refusal program text budget image s (Ok v) (Err f) set e order errors = absurd e
-told_refusal program text budget image s (Err e) (Ok w) set q order errors = absurd q
-told_refusal program text budget image s (Err e) (Err f) set tells order errors =
+    (settings_fault s ≡ None → IfErr a (λ e. IsReason s image e ⊎ ((e ≡ refusals.SinkFailed) × failed))) → IfErr b (RefusedSetRun program text budget image failed)
+told_refusal failed program text budget image s (Ok v) (Ok w) set e order errors = tt
+told_refusal failed program text budget image s (Ok v) (Err f) set e order errors = absurd e
+told_refusal failed program text budget image s (Err e) (Ok w) set q order errors = absurd q
+told_refusal failed program text budget image s (Err e) (Err f) set tells order errors =
     record { settings = s; error = e; set = set; tells = tells; in_order = in_order_at s image e order; reason = errors }

@@ -1,5 +1,6 @@
 -- What a run is given by a command line: the bytes of its files, its plan and its settings. `holds` says that bytes are all that the
--- file of a path held, and `begins` that they are so many of its first bytes, or all where it has fewer.
+-- file of a path held, `begins` that they are so many of its first bytes, or all where it has fewer, and `lacks` that it couldn't be read
+-- for a fault. `failed` says that the output failed.
 use Rattle.std.specs.Prelude.{◌≡◌, ◌⊎◌, ◌≤◌, ◌++◌, ◌∷◌, [], ℕ, List, Bool, true, false, if◌then◌else◌, Option, Some, None, option_map, Err}
 use Rattle.command_line.specs.declared.settings.PlanChoice.{PlanChoice}
 use Rattle.command_line.specs.declared.settings.Program.{Program}
@@ -11,6 +12,8 @@ use Rattle.round_planner.specs.declared.settings.Format.TheVariants.{Elf, Flat}
 use Rattle.round_planner.specs.declared.settings.Settings.{Settings}
 use Rattle.round_planner.specs.Families.{family_plan}
 use Rattle.program_files.specs.Failures.{IsFileFailure, Tells}
+use Rattle.program_files.specs.declared.files.FileFault.{FileFault}
+use Rattle.program_files.specs.Spurious.{AllowsSpurious, spurious_place}
 use Rattle.program_files.specs.declared.failure.RunFailure.{RunFailure}
 use Rattle.program_files.specs.declared.failure.RunFailure.TheVariants.{Refused}
 use Rattle.round_planner.specs.PlanText.{ReadsAs}
@@ -20,10 +23,28 @@ use Rattle.round_planner.specs.Quotas.{Planned}
 abbrev pub most_of_flat : ℕ
 most_of_flat = 67108865
 
--- the bytes of the image: it is a flat file or not
-abbrev pub IsImageOf : (List ℕ → List ℕ → Type 0) → (List ℕ → ℕ → List ℕ → Type 0) → Bool → List ℕ → List ℕ → Type 0
-IsImageOf holds begins true path image = begins path most_of_flat image
-IsImageOf holds begins false path image = holds path image
+-- the bytes of the image's file: it is a flat file or not
+abbrev pub IsImageFile : (List ℕ → List ℕ → Type 0) → (List ℕ → ℕ → List ℕ → Type 0) → Bool → List ℕ → List ℕ → Type 0
+IsImageFile holds begins true path file = begins path most_of_flat file
+IsImageFile holds begins false path file = holds path file
+
+-- the image that is run: that of the file, but where waits may return without a signal for the byte that allows it
+abbrev pub IsRunAs : Bool → List ℕ → List ℕ → Type 0
+IsRunAs true file image = AllowsSpurious file image
+IsRunAs false file image = image ≡ file
+
+-- the bytes of the image
+pub record IsImageOf (holds : List ℕ → List ℕ → Type 0) (begins : List ℕ → ℕ → List ℕ → Type 0) (program : Program) (image : List ℕ) : Type 0 where
+  pub file : List ℕ
+  pub is_file : IsImageFile holds begins program.flat program.image.now file
+  pub is_image : IsRunAs program.spurious file image
+
+-- waits are to return without a signal, and the image's file has nothing that would allow it
+pub record LacksSpurious (holds : List ℕ → List ℕ → Type 0) (begins : List ℕ → ℕ → List ℕ → Type 0) (program : Program) : Type 0 where
+  pub asked : program.spurious ≡ true
+  pub file : List ℕ
+  pub is_file : IsImageFile holds begins program.flat program.image.now file
+  pub no_place : spurious_place file ≡ None
 
 -- the input is what the file of the path holds, and empty without one
 abbrev pub IsInputOf : (List ℕ → List ℕ → Type 0) → Option (List ℕ) → List ℕ → Type 0
@@ -32,8 +53,18 @@ IsInputOf holds (Some path) input = holds path input
 
 -- the guest program of the line, and its input
 pub record IsProgramOf (holds : List ℕ → List ℕ → Type 0) (begins : List ℕ → ℕ → List ℕ → Type 0) (program : Program) (image input : List ℕ) : Type 0 where
-  pub is_image : IsImageOf holds begins program.flat program.image.now image
+  pub is_image : IsImageOf holds begins program image
   pub is_input : IsInputOf holds (option_map (λ path. path.now) program.input) input
+
+-- the paths that the line names: those of the program, of the plan, and of both
+abbrev pub IsFileOfProgram : Program → List ℕ → Type 0
+IsFileOfProgram program path = (path ≡ program.image.now) ⊎ (option_map (λ file. file.now) program.input ≡ Some path)
+
+abbrev pub IsFileOfPlan : PlanChoice → List ℕ → Type 0
+IsFileOfPlan choice path = option_map (λ file. file.now) choice.file ≡ Some path
+
+abbrev pub IsFileOfRun : Run → List ℕ → Type 0
+IsFileOfRun run path = IsFileOfProgram run.program path ⊎ IsFileOfPlan run.plan path
 
 -- a plan of the family of a seed, for so many harts
 pub record IsFamilyPlan (seed harts number : ℕ) (text : List ℕ) (budget : ℕ) : Type 0 where
@@ -80,23 +111,25 @@ pub record AskedRun (holds : List ℕ → List ℕ → Type 0) (begins : List �
   pub made : SetRun run.program text budget
 
 -- a run of a program by a plan, and that it is refused, or the output can't be written
-pub record RefusedSetRun (program : Program) (text : List ℕ) (budget : ℕ) (image : List ℕ) (f : RunFailure) : Type 0 where
+pub record RefusedSetRun (program : Program) (text : List ℕ) (budget : ℕ) (image : List ℕ) (failed : Type 0) (f : RunFailure) : Type 0 where
   pub settings : Settings
   pub error : RunError
   pub set : HasSettings program text budget settings
   pub tells : Tells error f
   pub in_order : RefusedInOrder {X = Unit {0}} settings image (Err error)
-  pub reason : settings_fault settings ≡ None → IsReason settings image error ⊎ (error ≡ refusals.SinkFailed)
+  pub reason : settings_fault settings ≡ None → IsReason settings image error ⊎ ((error ≡ refusals.SinkFailed) × failed)
 
 -- the run that a line asks for is refused: for settings that are out of range, then for the image, then for the plan, or for want of memory
-pub record RefusedRun (holds : List ℕ → List ℕ → Type 0) (begins : List ℕ → ℕ → List ℕ → Type 0) (run : Run) (f : RunFailure) : Type 0 where
+pub record RefusedRun (holds : List ℕ → List ℕ → Type 0) (begins : List ℕ → ℕ → List ℕ → Type 0) (run : Run) (failed : Type 0) (f : RunFailure) : Type 0 where
   pub image : List ℕ
   pub input : List ℕ
   pub text : List ℕ
   pub budget : ℕ
   pub given : IsGiven holds begins run image input text budget
-  pub refused : RefusedSetRun run.program text budget image f
+  pub refused : RefusedSetRun run.program text budget image failed f
 
--- why a command on a run ends without what it was asked for: a file can't be read, the output can't be written, or the run is refused
-abbrev pub EndsFor : (List ℕ → List ℕ → Type 0) → (List ℕ → ℕ → List ℕ → Type 0) → Run → RunFailure → Type 0
-EndsFor holds begins run f = IsFileFailure f ⊎ (f ≡ Refused refusals.SinkFailed) ⊎ RefusedRun holds begins run f
+-- why a command on a run ends without what it was asked for: a file of the line couldn't be read or lacks what is asked for, the output failed, or
+-- the run is refused
+abbrev pub EndsFor : (List ℕ → List ℕ → Type 0) → (List ℕ → ℕ → List ℕ → Type 0) → (List ℕ → FileFault → Type 0) → Run → Type 0 → RunFailure → Type 0
+EndsFor holds begins lacks run failed f =
+    IsFileFailure lacks (IsFileOfRun run) (LacksSpurious holds begins run.program) f ⊎ ((f ≡ Refused refusals.SinkFailed) × failed) ⊎ RefusedRun holds begins run failed f

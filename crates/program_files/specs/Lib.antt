@@ -2,4 +2,5 @@ pub mod Asked
 pub mod Failures
 pub mod Naming
 pub mod Needed
+pub mod Spurious
 pub mod Status

@@ -1,5 +1,6 @@
 //! Decimal addresses that would be addresses of the image in hexadecimal, too.
 
+use crate::headers::number_at;
 use crate::messages::Messages;
 use command_line::Bytes;
 
@@ -52,16 +53,4 @@ fn is_in_segment(image: &[u8], header: u128, address: u128) -> bool {
     let start = u128::from(number_at(image, header.saturating_add(16), 8));
     let length = u128::from(number_at(image, header.saturating_add(40), 8));
     number_at(image, header, 4) == 1 && start <= address && address < start + length
-}
-
-/// The number of so many bytes at an offset of a file, its least significant byte first; 0 where the file has none there.
-fn number_at(file: &[u8], offset: usize, length: usize) -> u64 {
-    let Some(bytes) = file.get(offset..offset.saturating_add(length)) else {
-        return 0;
-    };
-    let mut number: u64 = 0;
-    for byte in bytes.iter().rev() {
-        number = number.wrapping_shl(8) | u64::from(*byte);
-    }
-    number
 }

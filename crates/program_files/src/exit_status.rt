@@ -16,6 +16,8 @@ pub enum ExitStatus {
     Doubtful,
     /// A fence is missing.
     Lacking,
+    /// No ending that was found is bad, but there may be others.
+    Incomplete,
 }
 
 impl ExitStatus {
@@ -30,6 +32,7 @@ impl ExitStatus {
             ExitStatus::Differs => 3,
             ExitStatus::Doubtful => 4,
             ExitStatus::Lacking => 5,
+            ExitStatus::Incomplete => 6,
         }
     }
 }

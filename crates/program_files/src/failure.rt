@@ -18,18 +18,22 @@ pub enum RunFailure {
     Plan(RunError, BadLine),
     /// The file of this path couldn't be read.
     File(String, FileFault),
+    /// Waits were to return without a signal, and the image has no object `dethart_spurious`.
+    NoSpurious,
 }
 
 impl NumberedRefusal for RunFailure {
     ghost refusal_number = { failure_number };
 
-    /// The number of the refusal: that of the run's, 61 for a file that can't be read, and 62 for one that is too large.
+    /// The number of the refusal: that of the run's, 61 for a file that can't be read, 62 for one that is too large, and 79 for an image
+    /// without the object.
     fn number(&self) -> u32 {
         match self {
             RunFailure::Refused(error) | RunFailure::Plan(error, _) => error.number(),
             RunFailure::File(_, FileFault::TooLarge) => 62,
             RunFailure::File(_, FileFault::OutOfMemory) => RunError::OutOfMemory.number(),
             RunFailure::File(_, _) => RunError::SourceFailed.number(),
+            RunFailure::NoSpurious => 79,
         }
     }
 }
@@ -49,6 +53,10 @@ impl Display for RunFailure {
                 FileFault::OutOfMemory => write!(f, "{}", RunError::OutOfMemory),
                 FileFault::Other => write!(f, "the file {path} couldn't be opened or read"),
             },
+            RunFailure::NoSpurious => write!(
+                f,
+                "the image has no object dethart_spurious: link it with the pthreads kit's conditions"
+            ),
         }
     }
 }

@@ -15,6 +15,7 @@ mod failure;
 mod fault;
 mod files;
 mod flags;
+mod headers;
 mod messages;
 mod naming;
 mod needed;
@@ -26,6 +27,7 @@ mod ranges;
 mod reading;
 mod runs;
 mod settings;
+mod spurious;
 
 pub use decimals::tell_of_decimals;
 pub use exit_status::ExitStatus;

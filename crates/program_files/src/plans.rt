@@ -1,6 +1,6 @@
 //! The plan of a run, and the plans of a family.
 ghost use Rattle.std.specs.Prelude.{◌≡◌, ◌≤◌, ◌++◌, ◌∷◌, [], IfOk, IfErr};
-ghost use Rattle.program_files.specs.Asked.{IsFamilyPlan, IsPlanChosen};
+ghost use Rattle.program_files.specs.Asked.{IsFamilyPlan, IsFileOfPlan, IsPlanChosen};
 ghost use Rattle.program_files.specs.Failures.{IsFileFailure, IsTold};
 
 use crate::failure::RunFailure;
@@ -37,7 +37,7 @@ pub fn plan_of<F: Files>(
     harts: u32,
 ) -> Result<AskedPlan, RunFailure>
     ensures plan { IfOk result (λ plan. IsPlanChosen (F.holds files.now) choice.now harts plan.text.items plan.budget) }
-    ensures errors { IfErr result IsFileFailure }
+    ensures errors { IfErr result (IsFileFailure (F.lacks files.now) (IsFileOfPlan choice.now) ⊥) }
 {
     let (text, is_file) = match (choice.number, choice.file) {
         // Where there is no such number of harts, the run is refused for it, whatever its plan.

@@ -1,10 +1,11 @@
 //! The files that a run is given.
-ghost use Rattle.std.specs.Prelude.{IfErr, IfOk};
-ghost use Rattle.program_files.specs.Asked.{IsImageOf, IsProgramOf};
-ghost use Rattle.program_files.specs.Failures.{IsFileFailure};
+ghost use Rattle.std.specs.Prelude.{◌≡◌, IfErr, IfOk};
+ghost use Rattle.program_files.specs.Asked.{IsFileOfProgram, IsImageFile, IsImageOf, IsProgramOf, LacksSpurious};
+ghost use Rattle.program_files.specs.Failures.{IsFileFailure, TellsFault};
 
 use crate::failure::RunFailure;
 use crate::files::{FileFault, Files};
+use crate::spurious::allow_spurious;
 use command_line::Program;
 use host_io::RunError;
 use pages::MOST_PAGES;
@@ -20,7 +21,7 @@ const MOST_OF_FLAT: u64 = MOST_PAGES as u64 * 4096 + 1;
 /// `File` where it can't be read, and `OutOfMemory`.
 pub fn read_file<F: Files>(files: &F, alloc: Global, path: &str) -> Result<Vec<u8>, RunFailure>
     ensures holds { IfOk result (λ bytes. F.holds files.now path.now bytes.items) }
-    ensures errors { IfErr result IsFileFailure }
+    ensures errors { IfErr result (IsFileFailure (F.lacks files.now) (λ named. named ≡ path.now) ⊥) }
 {
     match files.read_whole(path) {
         Ok(bytes) => Ok(bytes),
@@ -30,7 +31,7 @@ pub fn read_file<F: Files>(files: &F, alloc: Global, path: &str) -> Result<Vec<u
 
 /// The failure of a file that can't be read.
 pub fn unreadable(alloc: Global, path: &str, fault: FileFault) -> RunFailure
-    ensures { IsFileFailure result }
+    ensures { TellsFault path.now fault result }
 {
     match (fault, String::from_str(alloc, path)) {
         (FileFault::OutOfMemory, _) | (_, Err(_)) => RunFailure::Refused(RunError::OutOfMemory),
@@ -51,7 +52,8 @@ pub struct ProgramFiles {
 ///
 /// # Errors
 ///
-/// `File` where one of the files can't be read, and `OutOfMemory`.
+/// `File` where one of the files can't be read, `NoSpurious` where waits are to return without a signal and the image has no object by which
+/// they would, and `OutOfMemory`.
 pub fn read_program<F: Files>(
     files: &F,
     alloc: Global,
@@ -59,7 +61,8 @@ pub fn read_program<F: Files>(
 ) -> Result<ProgramFiles, RunFailure>
     ensures program { IfOk result (λ p. IsProgramOf (F.holds files.now) (F.begins files.now) program.now
         p.image.items p.input.items) }
-    ensures errors { IfErr result IsFileFailure }
+    ensures errors { IfErr result (IsFileFailure (F.lacks files.now) (IsFileOfProgram program.now)
+        (LacksSpurious (F.holds files.now) (F.begins files.now) program.now)) }
 {
     let image = read_image(files, alloc, program)?;
     let input = match program.input {
@@ -69,15 +72,36 @@ pub fn read_program<F: Files>(
     Ok(ProgramFiles { image, input })
 }
 
-/// Reads the image of a guest program.
+/// Reads the image of a guest program, as it is run.
 fn read_image<F: Files>(
     files: &F,
     alloc: Global,
     program: &Program<'_>,
 ) -> Result<Vec<u8>, RunFailure>
     ensures image { IfOk result (λ bytes. IsImageOf (F.holds files.now) (F.begins files.now)
+        program.now bytes.items) }
+    ensures errors { IfErr result (IsFileFailure (F.lacks files.now)
+        (λ named. named ≡ program.now.image.now)
+        (LacksSpurious (F.holds files.now) (F.begins files.now) program.now)) }
+{
+    let file = read_image_file(files, alloc, program)?;
+    if program.spurious {
+        allow_spurious(file)
+    } else {
+        Ok(file)
+    }
+}
+
+/// Reads the file of the image.
+fn read_image_file<F: Files>(
+    files: &F,
+    alloc: Global,
+    program: &Program<'_>,
+) -> Result<Vec<u8>, RunFailure>
+    ensures file { IfOk result (λ bytes. IsImageFile (F.holds files.now) (F.begins files.now)
         program.now.flat program.now.image.now bytes.items) }
-    ensures errors { IfErr result IsFileFailure }
+    ensures errors { IfErr result (IsFileFailure (F.lacks files.now)
+        (λ named. named ≡ program.now.image.now) ⊥) }
 {
     if !program.flat {
         return read_file(files, alloc, program.image);

@@ -1,5 +1,5 @@
 ghost use Rattle.std.specs.Prelude.{IfErr, IfOk};
-ghost use Rattle.program_files.specs.Asked.{IsGiven};
+ghost use Rattle.program_files.specs.Asked.{IsFileOfRun, IsGiven, LacksSpurious};
 ghost use Rattle.program_files.specs.Failures.{IsFileFailure};
 
 use crate::failure::RunFailure;
@@ -26,7 +26,8 @@ pub struct RunFiles {
 pub fn read_run<F: Files>(files: &F, alloc: Global, run: &Run<'_>) -> Result<RunFiles, RunFailure>
     ensures given { IfOk result (λ read. IsGiven (F.holds files.now) (F.begins files.now) run.now
         read.program.image.items read.program.input.items read.plan.text.items read.plan.budget) }
-    ensures errors { IfErr result IsFileFailure }
+    ensures errors { IfErr result (IsFileFailure (F.lacks files.now) (IsFileOfRun run.now)
+        (LacksSpurious (F.holds files.now) (F.begins files.now) run.now.program)) }
 {
     let program = read_program(files, alloc, &run.program)?;
     let plan = plan_of(files, alloc, &run.plan, run.program.harts)?;

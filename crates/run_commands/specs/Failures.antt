@@ -13,8 +13,8 @@ failure_number (Run failure) = run_number failure
 failure_number (Unread error) = refusal_number error
 failure_number (Unwritten path) = 21
 
--- the file of a path couldn't be made or written, or memory was refused
-abbrev pub IsUnwritten : List ℕ → RecordFailure → Type 0
-IsUnwritten path (Run failure) = failure ≡ runs.Refused refusals.OutOfMemory
-IsUnwritten path (Unread error) = ⊥
-IsUnwritten path (Unwritten text) = string_bytes text ≡ path
+-- the file of a path couldn't be made or written, as `wasnt_given` says of a path, or memory was refused
+abbrev pub IsUnwritten : (List ℕ → Type 0) → List ℕ → RecordFailure → Type 0
+IsUnwritten wasnt_given path (Run failure) = failure ≡ runs.Refused refusals.OutOfMemory
+IsUnwritten wasnt_given path (Unread error) = ⊥
+IsUnwritten wasnt_given path (Unwritten text) = (string_bytes text ≡ path) × wasnt_given path

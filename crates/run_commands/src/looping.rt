@@ -1,7 +1,4 @@
 //! Harts of a run that run for ever.
-ghost use Rattle.std.specs.Prelude.{IfErr};
-ghost use Rattle.program_files.specs.Asked.{RefusedSetRun};
-
 use command_line::Program;
 use hunter::find_run_endings;
 use plan_hunt::HartEnding;
@@ -18,10 +15,7 @@ pub(crate) fn tell_loops<M: Messages, R: Threads + Wait + Sync>(
     program: &Program<'_>,
     given: &RunFiles,
     messages: &M,
-) -> Result<(), RunFailure>
-    ensures errors { IfErr result (RefusedSetRun program.now given.now.plan.text.items given.now.plan.budget
-        given.now.program.image.items) }
-{
+) -> Result<(), RunFailure> {
     let endings = endings_of(threads, alloc, program, given)?;
     for (hart, ending) in endings.iter().enumerate() {
         if *ending == HartEnding::Loops {
@@ -37,10 +31,7 @@ fn endings_of<R: Threads + Wait + Sync>(
     alloc: Global,
     program: &Program<'_>,
     given: &RunFiles,
-) -> Result<Vec<HartEnding>, RunFailure>
-    ensures errors { IfErr result (RefusedSetRun program.now given.now.plan.text.items given.now.plan.budget
-        given.now.program.image.items) }
-{
+) -> Result<Vec<HartEnding>, RunFailure> {
     let settings = settings_of(program, &given.plan);
     let answer = find_run_endings(threads, alloc, &guest_files(&given.program), &settings);
     given.plan.explain(alloc, settings.harts, answer)

@@ -44,8 +44,10 @@ pub fn record_command<F: Files, M: Messages, P: Observer + ProgressLine, R: Thre
         (recorded_text (for_rounds n a.made.settings) asked.now.every a.image a.input a.made.plan) ×
         (status ≡ statuses.Done)) }
     // Else no file was written, or this one couldn't be.
-    ensures unwritten { IfErr result (λ f. (files.new ≡ files.old) ⊎ IsUnwritten asked.now.out.now f) }
-    ensures errors { IfErr result (EndsRecord (F.holds files.old) (F.begins files.old) asked.now) }
+    ensures unwritten { IfErr result (λ f. (files.new ≡ files.old) ⊎
+        IsUnwritten (F.wasnt_given files.new) asked.now.out.now f) }
+    ensures errors { IfErr result (EndsRecord (F.holds files.old) (F.begins files.old) (F.lacks files.old)
+        (F.wasnt_given files.new) asked.now) }
 {
     let given = read_run(files, alloc, &asked.run)?;
     let recorded = record_given(threads, alloc, &given, asked, progress)?;
@@ -68,7 +70,7 @@ fn record_given<P: Observer + ProgressLine, R: Threads + Wait + Sync>(
         (recorded ≡ recorded_of (for_rounds n r.settings) asked.now.every given.now.program.image.items
         given.now.program.input.items r.plan)) }
     ensures errors { IfErr result (RefusedSetRun asked.now.run.program given.now.plan.text.items
-        given.now.plan.budget given.now.program.image.items) }
+        given.now.plan.budget given.now.program.image.items ⊥) }
 {
     let settings = settings_of(&asked.run.program, &given.plan);
     let guest = guest_files(&given.program);

@@ -2,6 +2,7 @@ ghost use Rattle.std.specs.Prelude.{◌≡◌, ◌⊎◌, ◌++◌, ℕ, List, I
 ghost use Rattle.emulation.specs.OrderedRun.{IsOrderOfRun, ordered_text};
 ghost use Rattle.host_io.specs.Taken.{BeganText};
 ghost use Rattle.program_files.specs.Asked.{AskedRun, EndsFor, RefusedSetRun, SetRun};
+ghost use Rattle.program_files.specs.Failures.{HasFailed, IsUnprinted, failure_number};
 ghost use Rattle.program_files.specs.declared.exit_status.ExitStatus.TheVariants as statuses;
 
 use command_line::Run;
@@ -36,7 +37,11 @@ pub fn order_command<F: Files, O: Output, P: Observer + ProgressLine, R: Threads
         ((a : AskedRun (F.holds files.now) (F.begins files.now) run.now) × (indices : List ℕ) ×
         IsOrderOfRun a.made.settings a.image a.input a.made.plan indices × BeganText (O.took out.old) (O.took out.new)
         (ordered_text a.made.settings a.image a.input a.made.plan indices))) }
-    ensures errors { IfErr result (EndsFor (F.holds files.now) (F.begins files.now) run.now) }
+    // After a refusal for another cause than memory and the output nothing was printed.
+    ensures unprinted { IfErr result (λ f.
+        IsUnprinted (failure_number f) (O.took out.old) (O.took out.new)) }
+    ensures errors { IfErr result (EndsFor (F.holds files.now) (F.begins files.now) (F.lacks files.now) run.now
+        (HasFailed O.failures O.is_stuck out.old out.new)) }
 {
     let given = read_run(files, alloc, run)?;
     order_given(threads, alloc, &given, run, progress, out)?;
@@ -62,8 +67,10 @@ fn order_given<O: Output, P: Observer + ProgressLine, R: Threads + Wait + Sync>(
         IsOrderOfRun r.settings given.now.program.image.items given.now.program.input.items r.plan indices ×
         BeganText (O.took out.old) (O.took out.new) (ordered_text r.settings given.now.program.image.items
         given.now.program.input.items r.plan indices))) }
+    ensures unprinted { IfErr result (λ f.
+        IsUnprinted (failure_number f) (O.took out.old) (O.took out.new)) }
     ensures errors { IfErr result (RefusedSetRun run.now.program given.now.plan.text.items given.now.plan.budget
-        given.now.program.image.items) }
+        given.now.program.image.items (HasFailed O.failures O.is_stuck out.old out.new)) }
 {
     let settings = settings_of(&run.program, &given.plan);
     let answer = order_run(

@@ -18,7 +18,7 @@ pub fn read_recording_of<F: Files>(
     path: &str,
 ) -> Result<Recording, RecordFailure>
     ensures holds { IfOk result (HoldsRecording (F.marked files.now) path.now) }
-    ensures errors { IfErr result (EndsReading (F.marked files.now) path.now) }
+    ensures errors { IfErr result (EndsReading (F.marked files.now) (F.lacks files.now) path.now) }
 {
     match files.read_marked(path, b"RVDETREC") {
         Ok(text) => match read_recording(alloc, &text) {

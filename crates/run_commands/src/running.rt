@@ -5,6 +5,7 @@ ghost use Rattle.host_io.specs.declared.error.RunError.TheVariants as refusals;
 ghost use Rattle.round_planner.specs.Settings.{IsReason, RefusedInOrder, settings_fault};
 ghost use Rattle.machine.specs.Runs.{after_run};
 ghost use Rattle.program_files.specs.Asked.{AskedRun, EndsFor, RefusedSetRun, SetRun};
+ghost use Rattle.program_files.specs.Failures.{HasFailed, IsUnprinted, failure_number};
 ghost use Rattle.program_files.specs.declared.failure.RunFailure.TheVariants as failures;
 ghost use Rattle.run_commands.specs.Printed.{IsPrinted, printed_text, run_status};
 ghost use Rattle.host_io.specs.Writes.{IsFaultOr, WritesAnswer};
@@ -53,7 +54,11 @@ pub fn run_command<
     ensures begun { OnErr result ((O.took out.new ≡ O.took out.old) ⊎
         ((a : AskedRun (F.holds files.now) (F.begins files.now) asked.now.run) × BeganText (O.took out.old) (O.took out.new)
         (printed_text asked.now a.made.settings a.image a.input a.made.plan))) }
-    ensures errors { IfErr result (EndsFor (F.holds files.now) (F.begins files.now) asked.now.run) }
+    // After a refusal for another cause than memory and the output nothing was printed.
+    ensures unprinted { IfErr result (λ f.
+        IsUnprinted (failure_number f) (O.took out.old) (O.took out.new)) }
+    ensures errors { IfErr result (EndsFor (F.holds files.now) (F.begins files.now) (F.lacks files.now) asked.now.run
+        (HasFailed O.failures O.is_stuck out.old out.new)) }
 {
     let given = read_run(files, alloc, &asked.run)?;
     run_given(threads, alloc, &given, asked, progress, out, messages)
@@ -77,13 +82,18 @@ fn run_given<O: Output, M: Messages, P: Observer + ProgressLine, R: Threads + Wa
         ((r : SetRun asked.now.run.program given.now.plan.text.items given.now.plan.budget) ×
         BeganText (O.took out.old) (O.took out.new) (printed_text asked.now r.settings given.now.program.image.items
         given.now.program.input.items r.plan))) }
-    ensures errors { IfErr result (λ f. (f ≡ failures.Refused refusals.SinkFailed) ⊎ RefusedSetRun asked.now.run.program
-        given.now.plan.text.items given.now.plan.budget given.now.program.image.items f) }
+    ensures unprinted { IfErr result (λ f.
+        IsUnprinted (failure_number f) (O.took out.old) (O.took out.new)) }
+    ensures errors { IfErr result (λ f. ((f ≡ failures.Refused refusals.SinkFailed) ×
+        HasFailed O.failures O.is_stuck out.old out.new) ⊎
+        RefusedSetRun asked.now.run.program given.now.plan.text.items given.now.plan.budget
+        given.now.program.image.items (HasFailed O.failures O.is_stuck out.old out.new) f) }
 {
     let end = print_given(threads, alloc, given, asked, progress, out)?;
     out.hand_on()?;
     if end == RunEnd::RunsOn && (asked.strict || asked.show == Shown::Harts) {
-        tell_loops(threads, alloc, &asked.run.program, given, messages)?;
+        // What was asked for is out.
+        let _untold = tell_loops(threads, alloc, &asked.run.program, given, messages);
     }
     Ok(run_status(asked.strict, end))
 }
@@ -105,8 +115,10 @@ fn print_given<O: Output, P: Observer + ProgressLine, R: Threads + Wait + Sync>(
         ((r : SetRun asked.now.run.program given.now.plan.text.items given.now.plan.budget) ×
         BeganText (O.took out.old) (O.took out.new) (printed_text asked.now r.settings given.now.program.image.items
         given.now.program.input.items r.plan))) }
+    ensures unprinted { IfErr result (λ f.
+        IsUnprinted (failure_number f) (O.took out.old) (O.took out.new)) }
     ensures errors { IfErr result (RefusedSetRun asked.now.run.program given.now.plan.text.items given.now.plan.budget
-        given.now.program.image.items) }
+        given.now.program.image.items (HasFailed O.failures O.is_stuck out.old out.new)) }
 {
     let settings = settings_of(&asked.run.program, &given.plan);
     let answer = print_guest(

@@ -31,23 +31,15 @@ pub(crate) fn save<F: Files>(
     path: &str,
 ) -> Result<(), RecordFailure>
     ensures given { OnOk result (F.was_given files.old files.new path.now (recording.spelled recorded.now)) }
-    ensures errors { IfErr result (IsUnwritten path.now) }
+    ensures errors { IfErr result (IsUnwritten (F.wasnt_given files.new) path.now) }
 {
     match files.replace(path, &RecordingText { recorded }) {
         Ok(()) => Ok(()),
-        Err(RunError::OutOfMemory) => {
-            Err(RecordFailure::Run(RunFailure::Refused(RunError::OutOfMemory)))
-        }
-        Err(_) => Err(unwritten(alloc, path)),
-    }
-}
-
-/// The failure of a file that can't be made or written.
-fn unwritten(alloc: Global, path: &str) -> RecordFailure
-    ensures { IsUnwritten path.now result }
-{
-    match String::from_str(alloc, path) {
-        Ok(path) => RecordFailure::Unwritten(path),
-        Err(_) => RecordFailure::Run(RunFailure::Refused(RunError::OutOfMemory)),
+        Err(error) => match (error, String::from_str(alloc, path)) {
+            (RunError::OutOfMemory, _) | (_, Err(_)) => {
+                Err(RecordFailure::Run(RunFailure::Refused(RunError::OutOfMemory)))
+            }
+            (_, Ok(path)) => Err(RecordFailure::Unwritten(path)),
+        },
     }
 }

@@ -1,5 +1,5 @@
 -- What `draw` prints of a run or of an execution, and why it ends without it. `old` and `new` are what was printed before and after; `text` and
--- `budget` are those of the plan.
+-- `budget` are those of the plan, and `failed` says that the output failed.
 use Rattle.std.specs.Prelude.{◌≡◌, ◌⊎◌, ◌++◌, ◌&&◌, ◌||◌, Bool, List, None, Option, Some, false, is_some, nat_lt, not, true, ℕ}
 use Rattle.command_line.specs.declared.settings.Draw.{Draw}
 use Rattle.execution_commands.specs.Checks.{CheckedText, IsUnchecked}
@@ -12,9 +12,10 @@ use Rattle.host_io.specs.declared.error.RunError.TheVariants as refusals
 use Rattle.host_io.specs.declared.load_error.LoadError.{LoadError as ImageCause}
 use Rattle.round_planner.specs.Settings.{IsImageCause, settings_fault}
 use Rattle.program_files.specs.declared.fault.NamingFault.{NamingFault}
-use Rattle.program_files.specs.Asked.{IsGiven, RefusedSetRun, SetRun}
+use Rattle.program_files.specs.Asked.{IsFileOfRun, IsGiven, LacksSpurious, RefusedSetRun, SetRun}
 use Rattle.program_files.specs.Failures.{IsFileFailure}
 use Rattle.program_files.specs.declared.failure.RunFailure.TheVariants as runs
+use Rattle.program_files.specs.declared.files.FileFault.{FileFault}
 use Rattle.program_files.specs.declared.exit_status.ExitStatus.{ExitStatus}
 use Rattle.program_files.specs.declared.exit_status.ExitStatus.TheVariants.{Done}
 use Rattle.view_commands.specs.Views.{IsNamed, SetDraw, drawn_text}
@@ -44,11 +45,12 @@ pub record IsMisnamed (asked : Draw) (image text : List ℕ) (budget : ℕ) (fau
   pub named : IsNamed asked image asked.run.program.pages (Some fault)
 
 -- why a run isn't drawn
-abbrev pub IsRunEnd : Draw → List ℕ → List ℕ → ℕ → DrawFailure → Type 0
-IsRunEnd asked image text budget (failures.Run failure) = (failure ≡ runs.Refused refusals.OutOfMemory) ⊎ RefusedSetRun asked.run.program text budget image failure
-IsRunEnd asked image text budget (failures.NoExecution cause line) = ⊥
-IsRunEnd asked image text budget failures.NoRounds = ⊥
-IsRunEnd asked image text budget (failures.Naming fault) = IsMisnamed asked image text budget fault
+abbrev pub IsRunEnd : Draw → List ℕ → List ℕ → ℕ → Type 0 → DrawFailure → Type 0
+IsRunEnd asked image text budget failed (failures.Run failure) =
+    (failure ≡ runs.Refused refusals.OutOfMemory) ⊎ RefusedSetRun asked.run.program text budget image failed failure
+IsRunEnd asked image text budget failed (failures.NoExecution cause line) = ⊥
+IsRunEnd asked image text budget failed failures.NoRounds = ⊥
+IsRunEnd asked image text budget failed (failures.Naming fault) = IsMisnamed asked image text budget fault
 
 -- ---- executions
 
@@ -102,20 +104,21 @@ IsUnasked asked failures.NoRounds = asks_rounds asked ≡ true
 IsUnasked asked (failures.Naming fault) = ⊥
 
 -- why an execution that was checked isn't drawn
-abbrev pub IsCheckedEnd : Draw → Recorded → Bool → DrawFailure → Type 0
-IsCheckedEnd asked execution allowed (failures.Run failure) = (failure ≡ runs.Refused refusals.OutOfMemory) ⊎ (failure ≡ runs.Refused refusals.SinkFailed)
-IsCheckedEnd asked execution allowed (failures.NoExecution cause line) = ⊥
-IsCheckedEnd asked execution allowed failures.NoRounds = ⊥
-IsCheckedEnd asked execution allowed (failures.Naming fault) = (allowed ≡ true) × IsNamed asked execution.image execution.pages (Some fault)
+abbrev pub IsCheckedEnd : Draw → Recorded → Bool → Type 0 → DrawFailure → Type 0
+IsCheckedEnd asked execution allowed failed (failures.Run failure) =
+    (failure ≡ runs.Refused refusals.OutOfMemory) ⊎ ((failure ≡ runs.Refused refusals.SinkFailed) × failed)
+IsCheckedEnd asked execution allowed failed (failures.NoExecution cause line) = ⊥
+IsCheckedEnd asked execution allowed failed failures.NoRounds = ⊥
+IsCheckedEnd asked execution allowed failed (failures.Naming fault) = (allowed ≡ true) × IsNamed asked execution.image execution.pages (Some fault)
 
 -- why an execution isn't drawn: rounds are refused before the number of workers, and that before the execution's guest
-abbrev pub IsExecutionEnd : Draw → List ℕ → DrawFailure → Type 0
-IsExecutionEnd asked file (failures.Run failure) =
-    (failure ≡ runs.Refused refusals.OutOfMemory) ⊎ (failure ≡ runs.Refused refusals.SinkFailed)
+abbrev pub IsExecutionEnd : Draw → List ℕ → Type 0 → DrawFailure → Type 0
+IsExecutionEnd asked file failed (failures.Run failure) =
+    (failure ≡ runs.Refused refusals.OutOfMemory) ⊎ ((failure ≡ runs.Refused refusals.SinkFailed) × failed)
     ⊎ IsUnasked asked (failures.Run failure) ⊎ (IsAskable asked × IsUnchecked file failure)
-IsExecutionEnd asked file (failures.NoExecution cause line) = IsRefusedIn file cause line
-IsExecutionEnd asked file failures.NoRounds = (asks_rounds asked ≡ true) × (execution : Recorded) × IsExecution file execution
-IsExecutionEnd asked file (failures.Naming fault) = IsMisnamedThere asked file fault
+IsExecutionEnd asked file failed (failures.NoExecution cause line) = IsRefusedIn file cause line
+IsExecutionEnd asked file failed failures.NoRounds = (asks_rounds asked ≡ true) × (execution : Recorded) × IsExecution file execution
+IsExecutionEnd asked file failed (failures.Naming fault) = IsMisnamedThere asked file fault
 
 -- ---- the command
 
@@ -139,13 +142,13 @@ IsBegunBy false asked image input text budget old new = IsBegunRun asked image i
 abbrev pub IsBegun : Draw → List ℕ → List ℕ → List ℕ → ℕ → List ℕ → List ℕ → Type 0
 IsBegun asked image input text budget old new = IsBegunBy (is_of_execution asked image) asked image input text budget old new
 
-abbrev pub IsEndBy : Bool → Draw → List ℕ → List ℕ → ℕ → DrawFailure → Type 0
-IsEndBy true asked image text budget f = IsExecutionEnd asked image f
-IsEndBy false asked image text budget f = IsRunEnd asked image text budget f
+abbrev pub IsEndBy : Bool → Draw → List ℕ → List ℕ → ℕ → Type 0 → DrawFailure → Type 0
+IsEndBy true asked image text budget failed f = IsExecutionEnd asked image failed f
+IsEndBy false asked image text budget failed f = IsRunEnd asked image text budget failed f
 
 -- why nothing is drawn of what the files gave
-abbrev pub IsDrawEnd : Draw → List ℕ → List ℕ → ℕ → DrawFailure → Type 0
-IsDrawEnd asked image text budget f = IsEndBy (is_of_execution asked image) asked image text budget f
+abbrev pub IsDrawEnd : Draw → List ℕ → List ℕ → ℕ → Type 0 → DrawFailure → Type 0
+IsDrawEnd asked image text budget failed f = IsEndBy (is_of_execution asked image) asked image text budget failed f
 
 -- what the files of the line give
 pub record AskedDraw (holds : List ℕ → List ℕ → Type 0) (begins : List ℕ → ℕ → List ℕ → Type 0) (asked : Draw) : Type 0 where
@@ -155,13 +158,15 @@ pub record AskedDraw (holds : List ℕ → List ℕ → Type 0) (begins : List �
   pub budget : ℕ
   pub given : IsGiven holds begins asked.run image input text budget
 
--- a file can't be read, memory is refused, or the output can't be written
-abbrev pub IsFileEnd : DrawFailure → Type 0
-IsFileEnd (failures.Run failure) = IsFileFailure failure ⊎ (failure ≡ runs.Refused refusals.SinkFailed)
-IsFileEnd (failures.NoExecution cause line) = ⊥
-IsFileEnd failures.NoRounds = ⊥
-IsFileEnd (failures.Naming fault) = ⊥
+-- a file of the line couldn't be read or lacks what is asked for, memory is refused, or the output failed
+abbrev pub IsFileEnd : (List ℕ → FileFault → Type 0) → Type 0 → Draw → Type 0 → DrawFailure → Type 0
+IsFileEnd lacks is_without asked failed (failures.Run failure) =
+    IsFileFailure lacks (IsFileOfRun asked.run) is_without failure ⊎ ((failure ≡ runs.Refused refusals.SinkFailed) × failed)
+IsFileEnd lacks is_without asked failed (failures.NoExecution cause line) = ⊥
+IsFileEnd lacks is_without asked failed failures.NoRounds = ⊥
+IsFileEnd lacks is_without asked failed (failures.Naming fault) = ⊥
 
 -- why the command ends without a picture
-abbrev pub EndsDraw : (List ℕ → List ℕ → Type 0) → (List ℕ → ℕ → List ℕ → Type 0) → Draw → DrawFailure → Type 0
-EndsDraw holds begins asked f = IsFileEnd f ⊎ ((a : AskedDraw holds begins asked) × IsDrawEnd asked a.image a.text a.budget f)
+abbrev pub EndsDraw : (List ℕ → List ℕ → Type 0) → (List ℕ → ℕ → List ℕ → Type 0) → (List ℕ → FileFault → Type 0) → Draw → Type 0 → DrawFailure → Type 0
+EndsDraw holds begins lacks asked failed f =
+    IsFileEnd lacks (LacksSpurious holds begins asked.run.program) asked failed f ⊎ ((a : AskedDraw holds begins asked) × IsDrawEnd asked a.image a.text a.budget failed f)

@@ -3,6 +3,8 @@ ghost use Rattle.std.specs.Prelude.{◌≡◌, ◌⊎◌, Err, IfErr, IfOk, None
 ghost use Rattle.execution_commands.specs.Verdicts.{IsVerdictText, is_allowed, verdict_status};
 ghost use Rattle.execution_file.specs.Views.{as_recorded};
 ghost use Rattle.host_io.specs.declared.error.RunError.TheVariants as refusals;
+ghost use Rattle.program_files.specs.Failures.{HasFailed, IsCutOff, IsUnprinted};
+ghost use Rattle.view_commands.specs.Failures.{failure_number};
 ghost use Rattle.view_commands.specs.Drawings.{BeginsFound, DrawsExecution, IsAskable, IsBegunExecution, IsCheckedEnd, IsExecutionEnd, IsUnasked, PrintsFound};
 ghost use Rattle.view_commands.specs.Views.{IsNamed};
 ghost use Rattle.program_files.specs.declared.exit_status.ExitStatus.TheVariants.{Done};
@@ -13,24 +15,27 @@ use command_line::{Bytes, Draw};
 use drawing::{ExecutionScene, object_touched, write_execution_picture};
 use execution_commands::{is_allowed, put_verdict, read_execution_text};
 use execution_scripts::{Checked, ExecutionFile, check_file, positions_sought};
-use host_io::{RunError, Sink};
+use host_io::RunError;
 use machine::Format;
 use pages::OutOfMemory;
 use picture::Site;
-use program_files::{ExitStatus, NamedBytes, named_bytes};
+use program_files::{ExitStatus, NamedBytes, Output, named_bytes};
 use std::alloc::Global;
 
 /// Prints a picture of the execution that a text says, or what is found of it, where RVWMO doesn't allow it.
-pub(crate) fn draw_execution<S: Sink>(
+pub(crate) fn draw_execution<O: Output>(
     alloc: Global,
     text: &[u8],
     asked: &Draw<'_>,
-    out: &mut S,
+    out: &mut O,
 ) -> Result<ExitStatus, DrawFailure>
-    ensures draws { IfOk result (DrawsExecution asked.now text.now (S.took out.old) (S.took out.new)) }
-    ensures begun { OnErr result ((S.took out.new ≡ S.took out.old) ⊎
-        IsBegunExecution asked.now text.now (S.took out.old) (S.took out.new)) }
-    ensures errors { IfErr result (IsExecutionEnd asked.now text.now) }
+    ensures draws { IfOk result (DrawsExecution asked.now text.now (O.took out.old) (O.took out.new)) }
+    ensures begun { OnErr result ((O.took out.new ≡ O.took out.old) ⊎
+        IsBegunExecution asked.now text.now (O.took out.old) (O.took out.new)) }
+    ensures unprinted { IfErr result (λ f.
+        IsUnprinted (failure_number f) (O.took out.old) (O.took out.new)) }
+    ensures errors { IfErr result (IsExecutionEnd asked.now text.now
+        (HasFailed O.failures O.is_stuck out.old out.new)) }
 {
     let file = read_execution_text(alloc, text)?;
     refuse_options(asked)?;
@@ -54,19 +59,22 @@ fn refuse_options(asked: &Draw<'_>) -> Result<(), DrawFailure>
 }
 
 /// Prints a picture of an execution that was checked, or what was found of it, where RVWMO doesn't allow it.
-fn draw_checked<S: Sink>(
+fn draw_checked<O: Output>(
     alloc: Global,
     file: &ExecutionFile,
     checked: &Checked,
     asked: &Draw<'_>,
-    out: &mut S,
+    out: &mut O,
 ) -> Result<ExitStatus, DrawFailure>
     ensures prints { IfOk result (λ _. PrintsFound (is_allowed checked.now.finding) asked.now (as_recorded file.now)
-        (IsVerdictText checked.now) (S.took out.old) (S.took out.new)) }
+        (IsVerdictText checked.now) (O.took out.old) (O.took out.new)) }
     ensures status { IfOk result (λ status. status ≡ verdict_status checked.now.finding) }
-    ensures begun { OnErr result ((S.took out.new ≡ S.took out.old) ⊎ BeginsFound (is_allowed checked.now.finding)
-        asked.now (as_recorded file.now) (IsVerdictText checked.now) (S.took out.old) (S.took out.new)) }
-    ensures errors { IfErr result (IsCheckedEnd asked.now (as_recorded file.now) (is_allowed checked.now.finding)) }
+    ensures begun { OnErr result ((O.took out.new ≡ O.took out.old) ⊎ BeginsFound (is_allowed checked.now.finding)
+        asked.now (as_recorded file.now) (IsVerdictText checked.now) (O.took out.old) (O.took out.new)) }
+    ensures unprinted { IfErr result (λ f.
+        IsUnprinted (failure_number f) (O.took out.old) (O.took out.new)) }
+    ensures errors { IfErr result (IsCheckedEnd asked.now (as_recorded file.now) (is_allowed checked.now.finding)
+        (HasFailed O.failures O.is_stuck out.old out.new)) }
 {
     if is_allowed(checked) {
         draw_allowed(alloc, file, checked, asked, out)
@@ -76,18 +84,21 @@ fn draw_checked<S: Sink>(
 }
 
 /// Prints a picture of an execution that is allowed.
-fn draw_allowed<S: Sink>(
+fn draw_allowed<O: Output>(
     alloc: Global,
     file: &ExecutionFile,
     checked: &Checked,
     asked: &Draw<'_>,
-    out: &mut S,
+    out: &mut O,
 ) -> Result<ExitStatus, DrawFailure>
     ensures sound { OnOk result (IsNamed asked.now file.now.image.items file.now.pages None) }
     ensures status { IfOk result (λ status. status ≡ Done) }
-    ensures begun { OnErr result ((S.took out.new ≡ S.took out.old) ⊎
+    ensures begun { OnErr result ((O.took out.new ≡ O.took out.old) ⊎
         IsNamed asked.now file.now.image.items file.now.pages None) }
-    ensures errors { IfErr result (IsCheckedEnd asked.now (as_recorded file.now) true) }
+    ensures unprinted { IfErr result (λ f.
+        IsUnprinted (failure_number f) (O.took out.old) (O.took out.new)) }
+    ensures errors { IfErr result (IsCheckedEnd asked.now (as_recorded file.now) true
+        (HasFailed O.failures O.is_stuck out.old out.new)) }
 {
     let NamedBytes { bytes, fault } = named_bytes(
         alloc,
@@ -106,15 +117,15 @@ fn draw_allowed<S: Sink>(
 }
 
 /// Prints a picture of what an execution does to these bytes, and to all where there are none.
-fn put_picture<S: Sink>(
+fn put_picture<O: Output>(
     alloc: Global,
     file: &ExecutionFile,
     checked: &Checked,
     bytes: &[Bytes],
-    out: &mut S,
+    out: &mut O,
 ) -> Result<(), RunError>
-    ensures errors { IfErr result (λ e. (e ≡ refusals.OutOfMemory) ⊎ (e ≡ refusals.SinkFailed)) }
-    ensures memory { result ≡ Err refusals.OutOfMemory → S.took out.new ≡ S.took out.old }
+    ensures errors { IfErr result (IsCutOff (HasFailed O.failures O.is_stuck out.old out.new)) }
+    ensures memory { result ≡ Err refusals.OutOfMemory → O.took out.new ≡ O.took out.old }
 {
     let positions = positions_of(alloc, checked, bytes)?;
     let sites = sites_of(alloc, file, checked, &positions)?;

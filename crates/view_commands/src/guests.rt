@@ -2,6 +2,8 @@
 ghost use Rattle.std.specs.Prelude.{◌≡◌, ◌⊎◌, ◌++◌, IfErr, IfOk, OnErr, OnOk, Some};
 ghost use Rattle.host_io.specs.Taken.{BeganText};
 ghost use Rattle.program_files.specs.Asked.{RefusedSetRun};
+ghost use Rattle.program_files.specs.Failures.{HasFailed, IsUnprinted, failure_number as run_number};
+ghost use Rattle.view_commands.specs.Failures.{failure_number};
 ghost use Rattle.view_commands.specs.Drawings.{DrawsRun, IsBegunRun, IsRunEnd};
 ghost use Rattle.view_commands.specs.Views.{HasRounds, IsNamed, SetDraw, drawn_text, ranges_of};
 
@@ -33,8 +35,10 @@ pub(crate) fn draw_guest<O: Output, P: Observer + ProgressLine, R: Threads + Wai
     ensures begun { OnErr result ((O.took out.new ≡ O.took out.old) ⊎
         IsBegunRun asked.now given.now.program.image.items given.now.program.input.items
         given.now.plan.text.items given.now.plan.budget (O.took out.old) (O.took out.new)) }
+    ensures unprinted { IfErr result (λ f.
+        IsUnprinted (failure_number f) (O.took out.old) (O.took out.new)) }
     ensures errors { IfErr result (IsRunEnd asked.now given.now.program.image.items
-        given.now.plan.text.items given.now.plan.budget) }
+        given.now.plan.text.items given.now.plan.budget (HasFailed O.failures O.is_stuck out.old out.new)) }
 {
     let NamedBytes { bytes, fault } = named_bytes(
         alloc,
@@ -69,8 +73,10 @@ fn draw_ranges<O: Output, P: Observer + ProgressLine, R: Threads + Wait + Sync>(
     ensures begun { OnErr result ((O.took out.new ≡ O.took out.old) ⊎
         ((d : SetDraw asked.now given.now.program.image.items given.now.plan.text.items given.now.plan.budget) ×
         BeganText (O.took out.old) (O.took out.new) (drawn_text given.now.program.input.items d))) }
+    ensures unprinted { IfErr result (λ f.
+        IsUnprinted (run_number f) (O.took out.old) (O.took out.new)) }
     ensures errors { IfErr result (RefusedSetRun asked.now.run.program given.now.plan.text.items
-        given.now.plan.budget given.now.program.image.items) }
+        given.now.plan.budget given.now.program.image.items (HasFailed O.failures O.is_stuck out.old out.new)) }
 {
     let settings = settings_of(&asked.run.program, &given.plan);
     let mut observed = Observed { observer: progress };
@@ -102,7 +108,7 @@ fn view_of<'a>(asked: &Draw<'_>, ranges: &'a [Range]) -> View<'a>
 /// Why a run isn't drawn with bytes of which this is wrong: what refuses its settings, its image or its plan comes before.
 fn refused_for(alloc: Global, given: &RunFiles, asked: &Draw<'_>, fault: NamingFault) -> DrawFailure
     requires { IsNamed asked.now given.now.program.image.items asked.now.run.program.pages (Some fault) }
-    ensures { IsRunEnd asked.now given.now.program.image.items given.now.plan.text.items given.now.plan.budget result }
+    ensures { IsRunEnd asked.now given.now.program.image.items given.now.plan.text.items given.now.plan.budget ⊥ result }
 {
     let settings = settings_of(&asked.run.program, &given.plan);
     let (image, input) = (&given.program.image, &given.program.input);

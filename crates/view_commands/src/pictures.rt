@@ -1,4 +1,6 @@
 ghost use Rattle.std.specs.Prelude.{◌≡◌, ◌⊎◌, IfErr, IfOk, OnErr};
+ghost use Rattle.program_files.specs.Failures.{HasFailed, IsUnprinted};
+ghost use Rattle.view_commands.specs.Failures.{failure_number};
 ghost use Rattle.view_commands.specs.Drawings.{AskedDraw, Draws, EndsDraw, IsBegun, IsDrawEnd, is_of_execution};
 
 use crate::executions::draw_execution;
@@ -44,7 +46,11 @@ pub fn draw_command<
     ensures begun { OnErr result ((O.took out.new ≡ O.took out.old) ⊎
         ((a : AskedDraw (F.holds files.now) (F.begins files.now) asked.now) ×
         IsBegun asked.now a.image a.input a.text a.budget (O.took out.old) (O.took out.new))) }
-    ensures errors { IfErr result (EndsDraw (F.holds files.now) (F.begins files.now) asked.now) }
+    // After a refusal for another cause than memory and the output nothing was printed.
+    ensures unprinted { IfErr result (λ f.
+        IsUnprinted (failure_number f) (O.took out.old) (O.took out.new)) }
+    ensures errors { IfErr result (EndsDraw (F.holds files.now) (F.begins files.now) (F.lacks files.now) asked.now
+        (HasFailed O.failures O.is_stuck out.old out.new)) }
 {
     let given = read_run(files, alloc, &asked.run)?;
     let status = draw_given(threads, alloc, &given, asked, progress, out)?;
@@ -68,8 +74,10 @@ fn draw_given<O: Output, P: Observer + ProgressLine, R: Threads + Wait + Sync>(
     ensures begun { OnErr result ((O.took out.new ≡ O.took out.old) ⊎
         IsBegun asked.now given.now.program.image.items given.now.program.input.items
         given.now.plan.text.items given.now.plan.budget (O.took out.old) (O.took out.new)) }
+    ensures unprinted { IfErr result (λ f.
+        IsUnprinted (failure_number f) (O.took out.old) (O.took out.new)) }
     ensures errors { IfErr result (IsDrawEnd asked.now given.now.program.image.items
-        given.now.plan.text.items given.now.plan.budget) }
+        given.now.plan.text.items given.now.plan.budget (HasFailed O.failures O.is_stuck out.old out.new)) }
 {
     if is_of_execution(asked, &given.program.image) {
         draw_execution(alloc, &given.program.image, asked, out)

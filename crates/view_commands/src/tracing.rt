@@ -2,6 +2,7 @@ ghost use Rattle.std.specs.Prelude.{◌≡◌, ◌⊎◌, ◌++◌, IfErr, IfOk,
 ghost use Rattle.drawing.specs.Drawn.{trace_events_after};
 ghost use Rattle.host_io.specs.Taken.{BeganText};
 ghost use Rattle.program_files.specs.Asked.{AskedRun, EndsFor, RefusedSetRun, SetRun};
+ghost use Rattle.program_files.specs.Failures.{HasFailed, IsUnprinted, failure_number};
 ghost use Rattle.program_files.specs.declared.exit_status.ExitStatus.TheVariants as statuses;
 
 use command_line::Run;
@@ -36,7 +37,11 @@ pub fn trace_command<F: Files, O: Output, P: Observer + ProgressLine, R: Threads
     ensures begun { OnErr result ((O.took out.new ≡ O.took out.old) ⊎
         ((a : AskedRun (F.holds files.now) (F.begins files.now) run.now) × BeganText (O.took out.old) (O.took out.new)
         (trace_events_after a.made.settings a.image a.input a.made.plan))) }
-    ensures errors { IfErr result (EndsFor (F.holds files.now) (F.begins files.now) run.now) }
+    // After a refusal for another cause than memory and the output nothing was printed.
+    ensures unprinted { IfErr result (λ f.
+        IsUnprinted (failure_number f) (O.took out.old) (O.took out.new)) }
+    ensures errors { IfErr result (EndsFor (F.holds files.now) (F.begins files.now) (F.lacks files.now) run.now
+        (HasFailed O.failures O.is_stuck out.old out.new)) }
 {
     let given = read_run(files, alloc, run)?;
     trace_given(threads, alloc, &given, run, progress, out)?;
@@ -60,8 +65,10 @@ fn trace_given<O: Output, P: Observer + ProgressLine, R: Threads + Wait + Sync>(
         ((r : SetRun run.now.program given.now.plan.text.items given.now.plan.budget) ×
         BeganText (O.took out.old) (O.took out.new) (trace_events_after r.settings given.now.program.image.items
         given.now.program.input.items r.plan))) }
+    ensures unprinted { IfErr result (λ f.
+        IsUnprinted (failure_number f) (O.took out.old) (O.took out.new)) }
     ensures errors { IfErr result (RefusedSetRun run.now.program given.now.plan.text.items given.now.plan.budget
-        given.now.program.image.items) }
+        given.now.program.image.items (HasFailed O.failures O.is_stuck out.old out.new)) }
 {
     let settings = settings_of(&run.program, &given.plan);
     let mut observed = Observed { observer: progress };

@@ -8,7 +8,7 @@ use Rattle.weak_commands.specs.declared.failure.FencesFailure.TheVariants.{Accep
 use Rattle.weak_commands.specs.declared.places.Misplaced.{Misplaced}
 use Rattle.fence_table.specs.declared.accept_error.AcceptError.{AcceptError}
 use Rattle.host_io.specs.declared.error.RunError.TheVariants as refusals
-use Rattle.hunt_commands.specs.Asked.{IsFileEnd, IsHuntRefusal}
+use Rattle.hunt_commands.specs.Asked.{IsCutEnd, IsHuntRefusal}
 use Rattle.hunt_commands.specs.Settings.{HasNumbers}
 use Rattle.hunt_commands.specs.declared.failure.HuntFailure.{HuntFailure}
 use Rattle.hunt_commands.specs.declared.failure.HuntFailure.TheVariants as hunts
@@ -31,30 +31,31 @@ memory_of : (words : List (List ℕ)) (s : HuntSettings) (file : List ℕ) (f : 
     IsUnplaced words s file f → IsOutOfMemory f
 memory_of words s file f none h = ⊎_elim (λ memory. memory) (λ m. memory_alone file (image_of s.format file s.pages).code words f none m.1) h
 
-file_end : (f : HuntFailure) → IsOutOfMemory (Hunt f) → IsFileEnd f
-file_end f h = subst IsFileEnd (sym (same f h)) (inl refl)
+cut_end : (failed : Type 0) (f : HuntFailure) → IsOutOfMemory (Hunt f) → IsCutEnd failed f
+cut_end failed f h = subst (IsCutEnd failed) (sym (same f h)) (inl refl)
   where
     same : (f : HuntFailure) → IsOutOfMemory (Hunt f) → f ≡ hunts.Run (runs.Refused refusals.OutOfMemory)
     same f q = cc
 
 -- a word that names no instruction ends the search, or want of memory does
-pub unplaced_so : (asked : Fences) (accepted image : List ℕ) (s : HuntSettings) (f : FencesFailure) → HasNumbers asked.search asked.first asked.plans false s →
-    IsUnplaced (words_of asked) s image f → IsSearchEnd asked accepted image f
-unplaced_so asked accepted image s (Hunt f) numbers h = inl (file_end f (memory_of (words_of asked) s image (Hunt f) (λ word why t. t) h))
-unplaced_so asked accepted image s (Accept e) numbers h = absurd (no_accept e (memory_of (words_of asked) s image (Accept e) (λ word why t. t) h))
+pub unplaced_so : (asked : Fences) (accepted image : List ℕ) (s : HuntSettings) (failed : Type 0) (f : FencesFailure) → HasNumbers asked.search asked.first asked.plans false s →
+    IsUnplaced (words_of asked) s image f → IsSearchEnd asked accepted image failed f
+unplaced_so asked accepted image s failed (Hunt f) numbers h = inl (cut_end failed f (memory_of (words_of asked) s image (Hunt f) (λ word why t. t) h))
+unplaced_so asked accepted image s failed (Accept e) numbers h = absurd (no_accept e (memory_of (words_of asked) s image (Accept e) (λ word why t. t) h))
   where
     no_accept : (e : AcceptError) → IsOutOfMemory (Accept e) → ⊥
     no_accept e q = cc
-unplaced_so asked accepted image s (NoPlace word why) numbers h = record { settings = s; numbers = numbers; unplaced = h }
-unplaced_so asked accepted image s (Unwritten path) numbers h = absurd (no_path (memory_of (words_of asked) s image (Unwritten path) (λ word why t. t) h))
+unplaced_so asked accepted image s failed (NoPlace word why) numbers h = record { settings = s; numbers = numbers; unplaced = h }
+unplaced_so asked accepted image s failed (Unwritten path) numbers h = absurd (no_path (memory_of (words_of asked) s image (Unwritten path) (λ word why t. t) h))
   where
     no_path : IsOutOfMemory (Unwritten path) → ⊥
     no_path q = cc
 
 -- the finder's refusal is one of a hunt, or an execution isn't confirmed
-pub refusal_so : (s : HuntSettings) (image : List ℕ) (e : WeakHuntError) → IsWeakReason s image e ⊎ (e ≡ weakly.Hunt (hunting.Run refusals.SinkFailed)) → IsHuntRefusal true s image e
-refusal_so s image (weakly.Hunt e) h = ⊎_elim (λ r. inl r) (λ q. inr (same e q)) h
+pub refusal_so : (s : HuntSettings) (image : List ℕ) (failed other : Type 0) (e : WeakHuntError) → (failed → other) →
+    IsWeakReason s image e ⊎ ((e ≡ weakly.Hunt (hunting.Run refusals.SinkFailed)) × failed) → IsHuntRefusal true s image other e
+refusal_so s image failed other (weakly.Hunt e) more h = ⊎_elim (λ r. inl r) (λ q. inr (same e q.0, more q.1)) h
   where
     same : (e : HuntError) → weakly.Hunt e ≡ weakly.Hunt (hunting.Run refusals.SinkFailed) → e ≡ hunting.Run refusals.SinkFailed
     same e q = cc
-refusal_so s image (weakly.Unconfirmed n) h = refl
+refusal_so s image failed other (weakly.Unconfirmed n) more h = refl

@@ -1,8 +1,7 @@
 -- Executions that are given to files one after the other.
-use Rattle.std.proofs.Common.{◌≡◌, ◌<◌, ◌≤◌, ◌+◌, ℕ, List, [], ◌∷◌, drop, get_or, length, map, refl, subst, sym}
+use Rattle.std.proofs.Common.{◌≡◌, ◌<◌, ◌≤◌, ◌+◌, ℕ, List, drop, get_or, length, map, refl, subst, sym}
 use Rattle.std.proofs.lemmas.List.{drop_all, drop_more}
 use Rattle.execution_file.specs.Grammar.{execution}
-use Rattle.execution_file.specs.Recorded.{Recorded}
 use Rattle.execution_file.specs.Views.{as_recorded}
 use Rattle.execution_file.specs.declared.file.ExecutionFile.{ExecutionFile}
 use Rattle.weak_commands.specs.Saved.{AreGiven, path_in}

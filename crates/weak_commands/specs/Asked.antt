@@ -1,5 +1,6 @@
--- The search for missing fences that a line asks for, and why it isn't done. `holds` and `begins` say what files hold, and `finds` that a
--- search by some settings finds a table, with these executions.
+-- The search for missing fences that a line asks for, and why it isn't done. `holds` and `begins` say what files hold, `lacks` and
+-- `wasnt_given` that one couldn't be read or written, `failed` that the output failed, and `finds` that a search by some settings finds a
+-- table, with these executions.
 use Rattle.std.specs.Prelude.{◌≡◌, ◌⊎◌, ℕ, List, map, false, true, Option, Some, None, is_some, option_map}
 use Rattle.command_line.specs.declared.settings.Fences.{Fences}
 use Rattle.execution_file.specs.Views.{as_recorded}
@@ -13,12 +14,13 @@ use Rattle.fence_finder.specs.declared.settings.FenceSettings.{FenceSettings}
 use Rattle.fence_table.specs.Accepting.{accepted_in}
 use Rattle.fence_table.specs.declared.accept_error.AcceptError.TheVariants as accepting
 use Rattle.fence_table.specs.declared.fence_table.FenceTable.{FenceTable}
-use Rattle.hunt_commands.specs.Asked.{IsFileEnd, IsRefusedSo}
+use Rattle.hunt_commands.specs.Asked.{IsCutEnd, IsFileEnd, IsRefusedSo}
 use Rattle.hunt_commands.specs.Settings.{HasNumbers, HasRanges}
 use Rattle.hunt_commands.specs.declared.failure.HuntFailure.{HuntFailure}
 use Rattle.hunter.specs.Hunts.{hunt_fault}
 use Rattle.hunter.specs.declared.settings.HuntSettings.{HuntSettings}
-use Rattle.program_files.specs.Asked.{IsInputOf, IsProgramOf}
+use Rattle.program_files.specs.Asked.{IsFileOfProgram, IsInputOf, IsProgramOf, LacksSpurious}
+use Rattle.program_files.specs.declared.files.FileFault.{FileFault}
 
 -- ---- what is searched
 
@@ -65,10 +67,10 @@ pub record AskedSearch (holds : List ℕ → List ℕ → Type 0) (begins : List
 -- ---- refusals
 
 -- the search is refused as a hunt is, or since an execution isn't confirmed
-pub record IsRefusedSearch (asked : Fences) (image : List ℕ) (f : HuntFailure) : Type 0 where
+pub record IsRefusedSearch (asked : Fences) (image : List ℕ) (failed : Type 0) (f : HuntFailure) : Type 0 where
   pub settings : HuntSettings
   pub numbers : HasNumbers asked.search asked.first asked.plans false settings
-  pub refused : IsRefusedSo asked.search true (hunt_fault settings) settings image f
+  pub refused : IsRefusedSo asked.search true (hunt_fault settings) settings image failed f
 
 -- a word names no instruction of the image
 pub record IsUnplacedSearch (asked : Fences) (image : List ℕ) (f : FencesFailure) : Type 0 where
@@ -76,30 +78,36 @@ pub record IsUnplacedSearch (asked : Fences) (image : List ℕ) (f : FencesFailu
   pub numbers : HasNumbers asked.search asked.first asked.plans false settings
   pub unplaced : IsUnplaced (words_of asked) settings image f
 
--- why a search in what the files gave ends: memory was refused or the output couldn't be written, the list of places is none, a word names
+-- why a search in what the files gave ends: memory was refused or the output failed, the list of places is none, a word names
 -- no instruction, or the search is refused
-abbrev pub IsSearchEnd : Fences → List ℕ → List ℕ → FencesFailure → Type 0
-IsSearchEnd asked accepted image (failures.Hunt failure) = IsFileEnd failure ⊎ IsRefusedSearch asked image failure
-IsSearchEnd asked accepted image (failures.Accept error) = (error ≡ accepting.OutOfMemory) ⊎ (accepted_in accepted ≡ None)
-IsSearchEnd asked accepted image (failures.NoPlace word why) = IsUnplacedSearch asked image (failures.NoPlace word why)
-IsSearchEnd asked accepted image (failures.Unwritten path) = ⊥
+abbrev pub IsSearchEnd : Fences → List ℕ → List ℕ → Type 0 → FencesFailure → Type 0
+IsSearchEnd asked accepted image failed (failures.Hunt failure) = IsCutEnd failed failure ⊎ IsRefusedSearch asked image failed failure
+IsSearchEnd asked accepted image failed (failures.Accept error) = (error ≡ accepting.OutOfMemory) ⊎ (accepted_in accepted ≡ None)
+IsSearchEnd asked accepted image failed (failures.NoPlace word why) = IsUnplacedSearch asked image (failures.NoPlace word why)
+IsSearchEnd asked accepted image failed (failures.Unwritten path) = ⊥
 
 -- the search that a line asks for ends so
-pub record EndsSearch (holds : List ℕ → List ℕ → Type 0) (begins : List ℕ → ℕ → List ℕ → Type 0) (asked : Fences) (f : FencesFailure) : Type 0 where
+pub record EndsSearch (holds : List ℕ → List ℕ → Type 0) (begins : List ℕ → ℕ → List ℕ → Type 0) (asked : Fences) (failed : Type 0) (f : FencesFailure) : Type 0 where
   pub image : List ℕ
   pub input : List ℕ
   pub accepted : List ℕ
   pub given : IsProgramOf holds begins asked.search.program image input
   pub list : IsInputOf holds (accept_of asked) accepted
-  pub ends : IsSearchEnd asked accepted image f
+  pub ends : IsSearchEnd asked accepted image failed f
 
--- a file can't be read, memory is refused, or the output can't be written
-abbrev pub IsWorldEnd : FencesFailure → Type 0
-IsWorldEnd (failures.Hunt failure) = IsFileEnd failure
-IsWorldEnd (failures.Accept error) = ⊥
-IsWorldEnd (failures.NoPlace word why) = ⊥
-IsWorldEnd (failures.Unwritten path) = ⊥
+-- a file that is named couldn't be read, memory is refused, or the output failed
+abbrev pub IsWorldEnd : (List ℕ → FileFault → Type 0) → (List ℕ → Type 0) → Type 0 → Type 0 → FencesFailure → Type 0
+IsWorldEnd lacks is_named is_without failed (failures.Hunt failure) = IsFileEnd lacks is_named is_without failure ⊎ IsCutEnd failed failure
+IsWorldEnd lacks is_named is_without failed (failures.Accept error) = ⊥
+IsWorldEnd lacks is_named is_without failed (failures.NoPlace word why) = ⊥
+IsWorldEnd lacks is_named is_without failed (failures.Unwritten path) = ⊥
+
+-- the files that the line names: the program's, and the list
+abbrev pub IsFileOf : Fences → List ℕ → Type 0
+IsFileOf asked path = IsFileOfProgram asked.search.program path ⊎ (accept_of asked ≡ Some path)
 
 -- why the command ends without what it was asked for
-abbrev pub EndsFences : (List ℕ → List ℕ → Type 0) → (List ℕ → ℕ → List ℕ → Type 0) → Fences → FencesFailure → Type 0
-EndsFences holds begins asked f = IsWorldEnd f ⊎ EndsSearch holds begins asked f ⊎ IsUnsavedIn (keep_of asked) f
+abbrev pub EndsFences : (List ℕ → List ℕ → Type 0) → (List ℕ → ℕ → List ℕ → Type 0) → (List ℕ → FileFault → Type 0) → (List ℕ → Type 0) → Fences → Type 0 → FencesFailure → Type 0
+EndsFences holds begins lacks wasnt_given asked failed f =
+    IsWorldEnd lacks (IsFileOf asked) (LacksSpurious holds begins asked.search.program) failed f ⊎ EndsSearch holds begins asked failed f
+    ⊎ IsUnsavedIn wasnt_given (keep_of asked) f

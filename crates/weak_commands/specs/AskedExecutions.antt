@@ -1,5 +1,6 @@
--- The execution of a guest program that a line asks for, and why it isn't printed. `holds` and `begins` say what files hold, and `makes`
--- that a file says the execution of a number, of so many steps at most.
+-- The execution of a guest program that a line asks for, and why it isn't printed. `holds` and `begins` say what files hold, `lacks` that
+-- one couldn't be read for a fault, `failed` that the output failed, and `makes` that a file says the execution of a number, of so many steps
+-- at most.
 use Rattle.std.specs.Prelude.{◌≡◌, ◌⊎◌, ℕ, List, Bool, true, false, Option, Some, None}
 use Rattle.command_line.specs.declared.settings.Execution.{Execution}
 use Rattle.command_line.specs.declared.settings.Program.{Program}
@@ -8,7 +9,7 @@ use Rattle.execution_file.specs.Recorded.{Recorded}
 use Rattle.execution_scripts.specs.RunFiles.{IsFileOf}
 use Rattle.host_io.specs.declared.error.RunError.TheVariants as refusals
 use Rattle.host_io.specs.declared.load_error.LoadError.{LoadError as ImageCause}
-use Rattle.hunt_commands.specs.Asked.{IsFileEnd}
+use Rattle.hunt_commands.specs.Asked.{IsCutEnd, IsFileEnd}
 use Rattle.hunt_commands.specs.Settings.{IsOfProgram}
 use Rattle.hunt_commands.specs.declared.failure.HuntFailure.{HuntFailure}
 use Rattle.hunt_commands.specs.declared.failure.HuntFailure.TheVariants as failures
@@ -17,7 +18,8 @@ use Rattle.hunter.specs.declared.error.HuntError.{HuntError}
 use Rattle.hunter.specs.declared.error.HuntError.TheVariants as hunting
 use Rattle.hunter.specs.declared.settings.HuntSettings.{HuntSettings}
 use Rattle.machine.specs.Runs.{after_run}
-use Rattle.program_files.specs.Asked.{IsGiven, IsProgramOf, RefusedRun, SetRun}
+use Rattle.program_files.specs.Asked.{IsFileOfRun, IsGiven, IsProgramOf, LacksSpurious, RefusedRun, SetRun}
+use Rattle.program_files.specs.declared.files.FileFault.{FileFault}
 use Rattle.weak_hunter.specs.WeakExecutions.{IsAllowedExecution, IsUnmade}
 use Rattle.weak_hunter.specs.declared.error.WeakHuntError.{WeakHuntError}
 use Rattle.weak_hunter.specs.declared.error.WeakHuntError.TheVariants.{Hunt}
@@ -89,7 +91,7 @@ pub record RefusedNumber (holds : List ℕ → List ℕ → Type 0) (begins : Li
 
 -- the run of a line is refused
 abbrev pub IsRefusedRun : (List ℕ → List ℕ → Type 0) → (List ℕ → ℕ → List ℕ → Type 0) → Run → HuntFailure → Type 0
-IsRefusedRun holds begins run (failures.Run failure) = RefusedRun holds begins run failure
+IsRefusedRun holds begins run (failures.Run failure) = RefusedRun holds begins run ⊥ failure
 IsRefusedRun holds begins run (failures.Refused error) = ⊥
 IsRefusedRun holds begins run (failures.Naming fault) = ⊥
 
@@ -97,7 +99,12 @@ abbrev pub IsRefused : Option ℕ → (List ℕ → List ℕ → Type 0) → (Li
 IsRefused None holds begins run f = IsRefusedRun holds begins run f
 IsRefused (Some number) holds begins run f = RefusedNumber holds begins run number f
 
--- why the command ends without its execution: a file can't be read, memory is refused, the output can't be written, or what is asked for is
--- refused
-abbrev pub EndsExecution : (List ℕ → List ℕ → Type 0) → (List ℕ → ℕ → List ℕ → Type 0) → Execution → HuntFailure → Type 0
-EndsExecution holds begins asked f = IsFileEnd f ⊎ IsRefused (number_of asked.weak asked.run.plan.number) holds begins asked.run f
+-- why the execution isn't made: a file of the line couldn't be read, memory is refused, or what is asked for is
+abbrev pub IsUnmadeFile : (List ℕ → List ℕ → Type 0) → (List ℕ → ℕ → List ℕ → Type 0) → (List ℕ → FileFault → Type 0) → Execution → HuntFailure → Type 0
+IsUnmadeFile holds begins lacks asked f =
+    IsFileEnd lacks (IsFileOfRun asked.run) (LacksSpurious holds begins asked.run.program) f
+    ⊎ IsRefused (number_of asked.weak asked.run.plan.number) holds begins asked.run f
+
+-- why the command ends without it: it isn't made, memory is refused, or the output failed
+abbrev pub EndsExecution : (List ℕ → List ℕ → Type 0) → (List ℕ → ℕ → List ℕ → Type 0) → (List ℕ → FileFault → Type 0) → Execution → Type 0 → HuntFailure → Type 0
+EndsExecution holds begins lacks asked failed f = IsUnmadeFile holds begins lacks asked f ⊎ IsCutEnd failed f

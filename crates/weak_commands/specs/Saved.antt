@@ -1,5 +1,5 @@
 -- The files that executions are kept in. `given` says that of two states of the files the one is the other, but that the file of a path
--- was given a text.
+-- was given a text, and `wasnt_given` that the file of a path couldn't be made or written.
 use Rattle.std.specs.Prelude.{◌≡◌, ◌⊎◌, ℕ, ◌+◌, List, [], ◌∷◌, ◌++◌, codes, Option, Some, None, string_bytes}
 use Rattle.std.specs.Fmt.{decimal}
 use Rattle.execution_file.specs.Grammar.{execution}
@@ -25,17 +25,18 @@ AreSaved given None es before after = after ≡ before
 AreSaved given (Some folder) [] before after = after ≡ before
 AreSaved {X} given (Some folder) (e ∷ es) before after = (made : X) × AreGiven given folder 1 (e ∷ es) made after
 
--- a file of the folder couldn't be made or written
-abbrev pub IsUnwrittenIn : List ℕ → FencesFailure → Type 0
-IsUnwrittenIn folder (Hunt failure) = ⊥
-IsUnwrittenIn folder (Accept error) = ⊥
-IsUnwrittenIn folder (NoPlace word why) = ⊥
-IsUnwrittenIn folder (Unwritten path) = (number : ℕ) × (string_bytes path ≡ path_in folder number)
+-- a file of the folder couldn't be made or written, or the folder has no name
+abbrev pub IsUnwrittenIn : (List ℕ → Type 0) → List ℕ → FencesFailure → Type 0
+IsUnwrittenIn wasnt_given folder (Hunt failure) = ⊥
+IsUnwrittenIn wasnt_given folder (Accept error) = ⊥
+IsUnwrittenIn wasnt_given folder (NoPlace word why) = ⊥
+IsUnwrittenIn wasnt_given folder (Unwritten path) =
+    (number : ℕ) × (string_bytes path ≡ path_in folder number) × ((folder ≡ []) ⊎ wasnt_given (string_bytes path))
 
 -- that, or memory was refused
-abbrev pub IsUnsaved : List ℕ → FencesFailure → Type 0
-IsUnsaved folder failure = IsOutOfMemory failure ⊎ IsUnwrittenIn folder failure
+abbrev pub IsUnsaved : (List ℕ → Type 0) → List ℕ → FencesFailure → Type 0
+IsUnsaved wasnt_given folder failure = IsOutOfMemory failure ⊎ IsUnwrittenIn wasnt_given folder failure
 
-abbrev pub IsUnsavedIn : Option (List ℕ) → FencesFailure → Type 0
-IsUnsavedIn None failure = ⊥
-IsUnsavedIn (Some folder) failure = IsUnsaved folder failure
+abbrev pub IsUnsavedIn : (List ℕ → Type 0) → Option (List ℕ) → FencesFailure → Type 0
+IsUnsavedIn wasnt_given None failure = ⊥
+IsUnsavedIn wasnt_given (Some folder) failure = IsUnsaved wasnt_given folder failure

@@ -1,11 +1,11 @@
 ghost use Rattle.std.specs.Prelude.{◌≡◌, ◌⊎◌, ◌++◌, IfErr, IfOk, OnErr};
-ghost use Rattle.weak_commands.specs.AskedExecutions.{AskedExecution, EndsExecution, IsAskedFile, IsNumbered, IsRun, IsRunOf, RefusedNumber, number_of};
+ghost use Rattle.weak_commands.specs.AskedExecutions.{AskedExecution, EndsExecution, IsAskedFile, IsNumbered, IsRun, IsRunOf, IsUnmadeFile, RefusedNumber, number_of};
 ghost use Rattle.execution_file.specs.Grammar.{execution};
 ghost use Rattle.execution_file.specs.Views.{as_recorded};
 ghost use Rattle.host_io.specs.Taken.{BeganText};
 ghost use Rattle.hunt_commands.specs.Asked.{IsFileEnd};
-ghost use Rattle.program_files.specs.Asked.{RefusedRun, RefusedSetRun};
-ghost use Rattle.program_files.specs.Failures.{IsFileFailure};
+ghost use Rattle.program_files.specs.Asked.{IsFileOfRun, LacksSpurious, RefusedRun, RefusedSetRun};
+ghost use Rattle.program_files.specs.Failures.{HasFailed, IsFileFailure};
 ghost use Rattle.program_files.specs.declared.exit_status.ExitStatus.TheVariants as statuses;
 
 use crate::makers::WeakExecutions;
@@ -49,7 +49,8 @@ pub fn execution_command<
     ensures begun { OnErr result ((O.took out.new ≡ O.took out.old) ⊎
         ((a : AskedExecution (F.holds files.now) (F.begins files.now) W.makes asked.now) ×
         BeganText (O.took out.old) (O.took out.new) (execution.spelled a.file))) }
-    ensures errors { IfErr result (EndsExecution (F.holds files.now) (F.begins files.now) asked.now) }
+    ensures errors { IfErr result (EndsExecution (F.holds files.now) (F.begins files.now) (F.lacks files.now) asked.now
+        (HasFailed O.failures O.is_stuck out.old out.new)) }
 {
     let file = asked_execution(threads, alloc, files, weakly, asked, progress)?;
     write_execution(alloc, &file, out)?;
@@ -72,7 +73,7 @@ fn asked_execution<
     progress: &mut P,
 ) -> Result<ExecutionFile, HuntFailure>
     ensures asked { IfOk result (λ f. IsAskedFile (F.holds files.now) (F.begins files.now) W.makes asked.now (as_recorded f)) }
-    ensures errors { IfErr result (EndsExecution (F.holds files.now) (F.begins files.now) asked.now) }
+    ensures errors { IfErr result (IsUnmadeFile (F.holds files.now) (F.begins files.now) (F.lacks files.now) asked.now) }
 {
     match number_of(asked) {
         Some(number) => numbered_execution(alloc, files, weakly, asked, number),
@@ -101,7 +102,9 @@ fn numbered_execution<F: Files, W: WeakExecutions>(
 ) -> Result<ExecutionFile, HuntFailure>
     ensures numbered { IfOk result (λ f. IsNumbered (F.holds files.now) (F.begins files.now) W.makes asked.now.run asked.now.steps number
         (as_recorded f)) }
-    ensures errors { IfErr result (λ f. IsFileEnd f ⊎ RefusedNumber (F.holds files.now) (F.begins files.now) asked.now.run number f) }
+    ensures errors { IfErr result (λ f. IsFileEnd (F.lacks files.now) (IsFileOfRun asked.now.run)
+        (LacksSpurious (F.holds files.now) (F.begins files.now) asked.now.run.program) f ⊎
+        RefusedNumber (F.holds files.now) (F.begins files.now) asked.now.run number f) }
 {
     let program = &asked.run.program;
     let given = read_program(files, alloc, program)?;
@@ -119,7 +122,9 @@ fn run_as_execution<F: Files, P: Observer + ProgressLine, R: Threads + Wait + Sy
     progress: &mut P,
 ) -> Result<ExecutionFile, RunFailure>
     ensures run { IfOk result (λ f. IsRun (F.holds files.now) (F.begins files.now) run.now (as_recorded f)) }
-    ensures errors { IfErr result (λ f. IsFileFailure f ⊎ RefusedRun (F.holds files.now) (F.begins files.now) run.now f) }
+    ensures errors { IfErr result (λ f. IsFileFailure (F.lacks files.now) (IsFileOfRun run.now)
+        (LacksSpurious (F.holds files.now) (F.begins files.now) run.now.program) f ⊎
+        RefusedRun (F.holds files.now) (F.begins files.now) run.now ⊥ f) }
 {
     let given = read_run(files, alloc, run)?;
     run_given(threads, alloc, &given, run, progress)
@@ -136,7 +141,7 @@ fn run_given<P: Observer + ProgressLine, R: Threads + Wait + Sync>(
     ensures run { IfOk result (λ f. IsRunOf run.now.program given.now.plan.text.items given.now.plan.budget
         given.now.program.image.items given.now.program.input.items (as_recorded f)) }
     ensures errors { IfErr result (RefusedSetRun run.now.program given.now.plan.text.items given.now.plan.budget
-        given.now.program.image.items) }
+        given.now.program.image.items ⊥) }
 {
     let settings = settings_of(&run.program, &given.plan);
     let made = execution_of_run(

@@ -1,4 +1,4 @@
-ghost use Rattle.std.specs.Prelude.{◌≡◌, ◌⊎◌, ◌++◌, IfErr, IfOk, None, OnErr, map, option_map};
+ghost use Rattle.std.specs.Prelude.{◌≡◌, ◌⊎◌, ◌++◌, IfErr, IfOk, None, OnErr, Some, map, option_map};
 ghost use Rattle.execution_file.specs.Views.{as_recorded};
 ghost use Rattle.weak_commands.specs.Asked.{AskedSearch, EndsFences, IsSearchEnd, IsWorldEnd, SetSearch, keep_of};
 ghost use Rattle.weak_commands.specs.Saved.{AreSaved};
@@ -6,7 +6,7 @@ ghost use Rattle.weak_commands.specs.Status.{fences_status};
 ghost use Rattle.fence_table.specs.Text.{fences_text};
 ghost use Rattle.host_io.specs.Taken.{BeganText};
 ghost use Rattle.program_files.specs.Asked.{IsInputOf};
-ghost use Rattle.program_files.specs.Failures.{IsFileFailure};
+ghost use Rattle.program_files.specs.Failures.{HasFailed, IsFileFailure};
 
 use crate::failure::FencesFailure;
 use crate::keeping::keep;
@@ -63,7 +63,8 @@ pub fn fences_command<
         BeganText (O.took out.old) (O.took out.new) (fences_text a.made.table))) }
     // Where the line names no folder, no file was written.
     ensures unasked { asked.now.keep ≡ None → files.new ≡ files.old }
-    ensures errors { IfErr result (EndsFences (F.holds files.old) (F.begins files.old) asked.now) }
+    ensures errors { IfErr result (EndsFences (F.holds files.old) (F.begins files.old) (F.lacks files.old)
+        (F.wasnt_given files.new) asked.now (HasFailed O.failures O.is_stuck out.old out.new)) }
 {
     let given = read_program(files, alloc, &asked.search.program)?;
     let list = read_list(files, alloc, asked.accept)?;
@@ -83,7 +84,8 @@ pub fn fences_command<
 /// The text of the list of places that are accepted; without a file it is empty.
 fn read_list<F: Files>(files: &F, alloc: Global, path: Option<&str>) -> Result<Vec<u8>, RunFailure>
     ensures list { IfOk result (λ bytes. IsInputOf (F.holds files.now) (option_map (λ s. s.now) path.entry) bytes.items) }
-    ensures errors { IfErr result IsFileFailure }
+    ensures errors { IfErr result (IsFileFailure (F.lacks files.now)
+        (λ named. option_map (λ s. s.now) path.entry ≡ Some named) ⊥) }
 {
     match path {
         Some(path) => read_file(files, alloc, path),
@@ -114,7 +116,8 @@ fn search_given<
     ensures begun { OnErr result ((O.took out.new ≡ O.took out.old) ⊎
         ((s : SetSearch W.finds asked.now list.now files.now.image.items files.now.input.items) ×
         BeganText (O.took out.old) (O.took out.new) (fences_text s.table))) }
-    ensures errors { IfErr result (IsSearchEnd asked.now list.now files.now.image.items) }
+    ensures errors { IfErr result (IsSearchEnd asked.now list.now files.now.image.items
+        (HasFailed O.failures O.is_stuck out.old out.new)) }
 {
     let accepted = Accepted::read(alloc, list)?;
     let NamedBytes { bytes, fault } = named_in(alloc, &asked.search, files)?;

@@ -30,7 +30,7 @@ impl FileText for ExecutionText<'_> {
 /// # Errors
 ///
 /// `Unwritten` with the path of the first file that can't be made or written, and the refusal of memory.
-pub(crate) fn keep<F: Files>(
+pub fn keep<F: Files>(
     files: &mut F,
     alloc: Global,
     folder: Option<&str>,
@@ -38,7 +38,7 @@ pub(crate) fn keep<F: Files>(
 ) -> Result<(), FencesFailure>
     ensures saved { OnOk result (AreSaved F.was_given (option_map (λ s. s.now) folder.entry) (map as_recorded executions.now) files.old files.new) }
     ensures unasked { folder.entry ≡ None → files.new ≡ files.old }
-    ensures errors { IfErr result (IsUnsavedIn (option_map (λ s. s.now) folder.entry)) }
+    ensures errors { IfErr result (IsUnsavedIn (F.wasnt_given files.new) (option_map (λ s. s.now) folder.entry)) }
 {
     match folder {
         Some(folder) => keep_in(files, alloc, folder, executions),
@@ -54,7 +54,7 @@ fn keep_in<F: Files>(
     executions: &[ExecutionFile],
 ) -> Result<(), FencesFailure>
     ensures saved { OnOk result (AreSaved F.was_given (Some folder.now) (map as_recorded executions.now) files.old files.new) }
-    ensures errors { IfErr result (IsUnsaved folder.now) }
+    ensures errors { IfErr result (IsUnsaved (F.wasnt_given files.new) folder.now) }
 {
     if executions.is_empty() {
         return Ok(());
@@ -71,7 +71,7 @@ fn put_each<F: Files>(
     executions: &[ExecutionFile],
 ) -> Result<(), FencesFailure>
     ensures given { OnOk result (AreGiven F.was_given folder.now 1 (map as_recorded executions.now) files.old files.new) }
-    ensures errors { IfErr result (IsUnsaved folder.now) }
+    ensures errors { IfErr result (IsUnsaved (F.wasnt_given files.new) folder.now) }
 {
     for index in 0..executions.len() {
         put(files, alloc, folder, index + 1, &executions[index])?;
@@ -88,7 +88,7 @@ fn put<F: Files>(
     file: &ExecutionFile,
 ) -> Result<(), FencesFailure>
     ensures given { OnOk result (F.was_given files.old files.new (path_in folder.now number) (execution.spelled (as_recorded file.now))) }
-    ensures errors { IfErr result (IsUnsaved folder.now) }
+    ensures errors { IfErr result (IsUnsaved (F.wasnt_given files.new) folder.now) }
 {
     let path = path_of(alloc, folder, number)?;
     if folder.is_empty() {

@@ -15,6 +15,7 @@ mod telling;
 pub use executing::execution_command;
 pub use failure::FencesFailure;
 pub use fences::fences_command;
+pub use keeping::keep;
 pub use makers::{WeakExecuter, WeakExecutions};
 pub use places::Misplaced;
 pub use searches::{FenceSearcher, FenceSearches};

@@ -1,5 +1,5 @@
 ghost use denote.Param.Send.{IsSync};
-ghost use Rattle.std.specs.Prelude.{◌≡◌, ◌⊎◌, ◌++◌, ⊤, ℕ, Err, IfErr, IfOk, List, None, OnErr, Some, false};
+ghost use Rattle.std.specs.Prelude.{◌≡◌, ◌⊎◌, ◌<◌, ◌++◌, ⊤, ℕ, Err, IfErr, IfOk, List, None, OnErr, Some, false};
 ghost use Rattle.execution_file.specs.declared.file.ExecutionFile.{ExecutionFile as Saved};
 ghost use Rattle.fence_finder.specs.MissingFences.{IsSearched};
 ghost use Rattle.fence_finder.specs.declared.settings.FenceSettings.{FenceSettings as AskedFor};
@@ -52,7 +52,8 @@ pub trait FenceSearches {
             BeganText (S.took out.old) (S.took out.new) (fences_text t))) }
         ensures settings { (e : Refusal) → hunt_fault settings.hunt ≡ Some e → result ≡ Err (Hunt e) }
         ensures errors { hunt_fault settings.hunt ≡ None → IfErr result (λ e.
-            IsWeakReason settings.hunt image.now e ⊎ (e ≡ Hunt (hunting.Run refusals.SinkFailed))) }
+            IsWeakReason settings.hunt image.now e ⊎
+            ((e ≡ Hunt (hunting.Run refusals.SinkFailed)) × (S.failures out.old < S.failures out.new))) }
         ensures image { (cause : ImageCause) → hunt_fault settings.hunt ≡ None →
             IsImageCause settings.hunt image.now cause →
             (result ≡ Err (Hunt (hunting.Run (refusals.Image cause)))) ⊎

@@ -1,10 +1,9 @@
-use Rattle.std.proofs.Common.{◌≡◌, Bool, None, Option, Some, inl, inr, refl, subst, ⊎_elim}
+use Rattle.std.proofs.Common.{◌≡◌, None, Option, Some, inl, inr, refl, subst, ⊎_elim}
 use Rattle.std.proofs.lemmas.Result.{err_from_is_err_and}
-use Rattle.hunt_commands.specs.Asked.{IsHuntRefusal}
 use Rattle.hunt_commands.specs.Settings.{IsNamed}
 use Rattle.program_files.proofs.Begun.{on_err}
 use Rattle.hunt_commands.proofs.Ranges.{none_bad, ranges_so}
-use Rattle.hunt_commands.proofs.Refused.{fault_so, told_so}
+use Rattle.hunt_commands.proofs.Refused.{fault_so, refusal_too, told_so}
 use Rattle.hunt_commands.proofs.Tables.{table_so}
 use Rattle.hunter.specs.Hunts.{hunt_fault}
 use Rattle.program_files.specs.declared.fault.NamingFault.{NamingFault}
@@ -20,7 +19,7 @@ returns-in-Some-clause-errors g c =
     inr (record {
       settings = s;
       numbers = c.in_ok-settings.ensures.numbers;
-      refused = fault_so asked.search asked.weak (hunt_fault s) s image c.in-Some.fault c.refused_for.result named c.refused_for.ensures.settings
+      refused = fault_so asked.search asked.weak (hunt_fault s) s image _ c.in-Some.fault c.refused_for.result named c.refused_for.ensures.settings
           (rw c.deref-in-Some.ensures.value at c.refused_for.ensures.image) (rw c.deref-in-Some.ensures.value at c.refused_for.ensures.reason);
     })
 
@@ -43,6 +42,7 @@ returns-in_err-answer-in-None-clause-begun g c =
         rows = b.1;
         numbers = numbers;
         ends = c.in_ok-settings.ensures.ends;
+        program = rw c.deref-2.ensures.value at c.in_ok-settings.ensures.program;
         ranges = ranges_so asked.search image bytes s there named ranges;
         table = table_so g.W.WeakHunts.hunts asked.steps asked.weak s image input b.0 b.1 numbers.is_weak b.2;
       },
@@ -67,8 +67,8 @@ returns-in_err-answer-in-None-clause-errors g c =
     rw (p.1, p.2) (inr (record {
       settings = s;
       numbers = numbers;
-      refused = told_so asked.search asked.weak (hunt_fault s) s image e good c.in_err-answer-in-None.ensures.settings
-          (λ none. subst (λ (b : Bool). IsHuntRefusal b s image e) numbers.is_weak (c.in_err-answer-in-None.ensures.errors none)) c.in_err-answer-in-None.ensures.image;
+      refused = told_so asked.search asked.weak (hunt_fault s) s image _ e good c.in_err-answer-in-None.ensures.settings
+          (λ none. refusal_too _ asked.weak s image _ _ e numbers.is_weak (λ more. inl more) (c.in_err-answer-in-None.ensures.errors none)) c.in_err-answer-in-None.ensures.image;
     }))
 
 pub returns-clause-hunts : goal.returns-clause-hunts
@@ -91,6 +91,7 @@ returns-clause-hunts g c =
         rows = tally.rows.items;
         numbers = numbers;
         ends = c.in_ok-settings.ensures.ends;
+        program = rw c.deref-2.ensures.value at c.in_ok-settings.ensures.program;
         ranges = ranges_so asked.search image bytes s there named ranges;
         table = table_so g.W.WeakHunts.hunts asked.steps asked.weak s image input tally.done tally.rows.items numbers.is_weak h.0;
       },

@@ -18,7 +18,7 @@ returns-in-Some-clause-errors g c =
     inr (record {
       settings = s;
       numbers = c.in_ok-settings.ensures.numbers;
-      refused = fault_so asked.search false (shrink_fault s) s image c.in-Some.fault c.refused_for_guest.result named c.refused_for_guest.ensures.settings
+      refused = fault_so asked.search false (shrink_fault s) s image ⊥ c.in-Some.fault c.refused_for_guest.result named c.refused_for_guest.ensures.settings
           (rw c.deref-in-Some.ensures.value at c.refused_for_guest.ensures.image) (rw c.deref-in-Some.ensures.value at c.refused_for_guest.ensures.reason);
     })
 

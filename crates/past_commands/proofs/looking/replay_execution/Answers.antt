@@ -19,7 +19,7 @@ returns-clause-answers c =
       no_rounds = none_of asked.round none;
       workers = c.in_ok-refuse_workers.ensures.ok;
       checked = checked;
-      found = subst (λ (s : Option HartStep). IsFound (guest_in file) file.harts file.order s checked.finding checked) c.step_asked.ensures c.in_ok-checked.ensures;
+      found = subst (λ (s : Option HartStep). IsFound (guest_in file) file s checked.finding checked) c.step_asked.ensures c.in_ok-checked.ensures;
       answer = h;
     }) c.answer_checked.ensures.answers
 

@@ -1,5 +1,6 @@
-use Rattle.std.proofs.Common.{inl, inr}
+use Rattle.std.proofs.Common.{ap, inl, inr}
 use Rattle.std.proofs.lemmas.Result.{IfErr-weaker, IfOk-weaker, on_err_weaker}
+use Rattle.past_commands.specs.Failures.{failure_number}
 use Rattle.past_commands.proofs.replaying.replay_command.Goals as goal
 
 pub returns-clause-answers : goal.returns-clause-answers
@@ -16,3 +17,6 @@ returns-clause-begun g c =
 
 pub returns-clause-errors : goal.returns-clause-errors
 returns-clause-errors g c = IfErr-weaker c.print_answer-status.result _ _ (λ f output. inr (inl output)) c.print_answer-status.ensures.errors
+
+pub returns-clause-unprinted : goal.returns-clause-unprinted
+returns-clause-unprinted g c = IfErr-weaker c.print_answer-status.result _ _ (λ f output. inr (inr (ap failure_number output.0))) c.print_answer-status.ensures.errors

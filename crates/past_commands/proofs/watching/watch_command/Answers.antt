@@ -1,5 +1,6 @@
-use Rattle.std.proofs.Common.{inl, inr, ⊎_elim}
+use Rattle.std.proofs.Common.{ap, inl, inr, ⊎_elim}
 use Rattle.std.proofs.lemmas.Result.{IfErr-weaker, IfOk-weaker, on_err_weaker}
+use Rattle.past_commands.specs.Failures.{failure_number}
 use Rattle.past_commands.proofs.watching.watch_command.Goals as goal
 
 pub returns-clause-watches : goal.returns-clause-watches
@@ -17,3 +18,8 @@ returns-clause-begun g c =
 pub returns-clause-errors : goal.returns-clause-errors
 returns-clause-errors g c =
     IfErr-weaker c.hand_on_watched-status.result _ _ (λ f. ⊎_elim (λ output. inr (inl output)) (λ memory. inr (inr (inl memory)))) c.hand_on_watched-status.ensures.errors
+
+pub returns-clause-unprinted : goal.returns-clause-unprinted
+returns-clause-unprinted g c =
+    IfErr-weaker c.hand_on_watched-status.result _ _ (λ f. ⊎_elim (λ output. inr (inr (ap failure_number output.0))) (λ memory. inr (inl (ap failure_number memory))))
+    c.hand_on_watched-status.ensures.errors

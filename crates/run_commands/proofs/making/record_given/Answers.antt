@@ -13,6 +13,6 @@ returns-clause-records g c =
 
 pub returns-clause-errors : goal.returns-clause-errors
 returns-clause-errors g c =
-    told_refusal _ _ _ _ c.settings_of-settings.result c.record_guest-answer.result c.explain.result c.settings_of-settings.ensures c.explain.ensures
+    told_refusal _ _ _ _ _ c.settings_of-settings.result c.record_guest-answer.result c.explain.result c.settings_of-settings.ensures c.explain.ensures
     (rw c.guest_files-guest.ensures.image at c.record_guest-answer.ensures.in_order)
     (λ none. on_error c.record_guest-answer.result _ _ (λ e reason. inl reason) (rw c.guest_files-guest.ensures.image at (c.record_guest-answer.ensures.errors none)))

@@ -9,11 +9,6 @@ returns-in_err-hand_on-clause-begun g c =
     let done = c.in_ok-end.ensures.runs in
     on_err c.from_residual-in_err-hand_on.result _ (inr (done.0, whole _ _ _ (c.in_err-hand_on.ensures.took ∙ done.1)))
 
-pub returns-in_err-tell_loops-clause-begun : goal.returns-in_err-tell_loops-clause-begun
-returns-in_err-tell_loops-clause-begun g c =
-    let done = c.in_ok-end.ensures.runs in
-    on_err c.from_residual-in_err-tell_loops.result _ (inr (done.0, whole _ _ _ (c.in_ok-hand_on.ensures.took ∙ done.1)))
-
 pub returns-clause-runs : goal.returns-clause-runs
 returns-clause-runs g c =
     let done = c.in_ok-end.ensures.runs in (

@@ -34,4 +34,4 @@ returns-clause-errors g c =
       says = c.in_ok-file.ensures.reads;
       found = c.in_ok-checked.ensures;
     } in
-    on_error c.draw_checked.result _ _ (λ e h. end_so c.args.asked.now c.args.text.now made e c.in_ok-refuse_options.ensures.askable h) c.draw_checked.ensures.errors
+    on_error c.draw_checked.result _ _ (λ e h. end_so c.args.asked.now c.args.text.now made _ e c.in_ok-refuse_options.ensures.askable h) c.draw_checked.ensures.errors

@@ -1,6 +1,7 @@
 use Rattle.std.proofs.Common.{◌≡◌, None, Option, inl, inr, refl, subst, ⊎_elim}
 use Rattle.program_files.specs.declared.fault.NamingFault.{NamingFault}
 use Rattle.program_files.proofs.Begun.{on_err}
+use Rattle.view_commands.proofs.Drawn.{run_end_too}
 use Rattle.view_commands.specs.Views.{IsNamed}
 use Rattle.view_commands.proofs.guests.draw_guest.Goals as goal
 
@@ -21,3 +22,6 @@ returns-clause-draws g c =
     let sound = subst (λ (f : Option NamingFault). IsNamed asked c.args.given.now.program.image.items asked.run.program.pages f) is named in
     let d = c.in_ok-draw_ranges-in-None.ensures.draws in
     record { drawn = d.0; sound = sound; prints = d.1; is_status = refl }
+
+pub returns-in-Some-clause-errors : goal.returns-in-Some-clause-errors
+returns-in-Some-clause-errors g c = run_end_too c.args.asked.now _ _ _ _ c.refused_for.result c.refused_for.ensures

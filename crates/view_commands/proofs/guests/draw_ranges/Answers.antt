@@ -1,8 +1,12 @@
 use Rattle.std.proofs.Common.{List, ap, inl, inr, refl, subst, ⊎_elim, ℕ, ◌++◌, ◌∙◌}
+use Rattle.host_io.specs.RunErrors.{number_of}
 use Rattle.host_io.specs.Taken.{BeganText}
+use Rattle.host_io.specs.declared.error.RunError.TheVariants.{OutOfMemory, SinkFailed}
+use Rattle.program_files.proofs.Failing.{why_failed}
 use Rattle.program_files.proofs.Told.{on_value, told_done, told_refusal, told_refused, where_refused}
+use Rattle.program_files.proofs.Unprinted.{told_unprinted, unprinted}
 use Rattle.round_planner.specs.Settings.{IsReason, settings_fault}
-use Rattle.host_io.proofs.Answered.{begun, why_in_range}
+use Rattle.host_io.proofs.Answered.{begun}
 use Rattle.view_commands.proofs.guests.draw_ranges.Goals as goal
 
 pub returns-clause-draws : goal.returns-clause-draws
@@ -37,7 +41,12 @@ returns-clause-begun g c =
 pub returns-clause-errors : goal.returns-clause-errors
 returns-clause-errors g c =
     let s = c.settings_of-settings.result in
-    told_refusal _ _ _ _ s c.draw_run-answer.result c.explain.result c.settings_of-settings.ensures c.explain.ensures
+    told_refusal _ _ _ _ _ s c.draw_run-answer.result c.explain.result c.settings_of-settings.ensures c.explain.ensures
     (rw c.guest_files.ensures.image at c.draw_run-answer.ensures.in_order)
-    (why_in_range (settings_fault s) (IsReason s c.args.given.now.program.image.items) c.draw_run-answer.result
+    (why_failed g.O.Output.is_stuck (settings_fault s) (IsReason s c.args.given.now.program.image.items) c.draw_run-answer.result
     (rw c.guest_files.ensures.image at c.draw_run-answer.ensures.writes) (inl refl))
+
+pub returns-clause-unprinted : goal.returns-clause-unprinted
+returns-clause-unprinted g c =
+    told_unprinted c.draw_run-answer.result c.explain.result (g.O.Sink.took c.args.out.now) (g.O.Sink.took c.draw_run-answer.new.out) c.explain.ensures
+    (unprinted number_of OutOfMemory SinkFailed c.draw_run-answer.result refl refl c.draw_run-answer.ensures.writes)

@@ -13,6 +13,6 @@ returns-in-Ok c =
 
 pub returns-in-Err : goal.returns-in-Err
 returns-in-Err c =
-    inr (IfErr-at_err _ c.in-Err.is (told_refusal _ _ _ _ c.settings_of-settings.result c.prepare-prepared.result c.explain.result c.settings_of-settings.ensures c.explain.ensures
+    inr (IfErr-at_err _ c.in-Err.is (told_refusal _ _ _ _ _ c.settings_of-settings.result c.prepare-prepared.result c.explain.result c.settings_of-settings.ensures c.explain.ensures
     (rw c.deref.ensures.value at c.prepare-prepared.ensures.in_order)
     (λ none. on_error c.prepare-prepared.result _ _ (λ e reason. inl reason) (rw c.deref.ensures.value at (c.prepare-prepared.ensures.errors none)))))

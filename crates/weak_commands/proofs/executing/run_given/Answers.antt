@@ -11,6 +11,6 @@ returns-clause-run g c =
 
 pub returns-clause-errors : goal.returns-clause-errors
 returns-clause-errors g c =
-    told_refusal _ _ _ _ c.settings_of-settings.result c.execution_of_run-made.result c.explain.result c.settings_of-settings.ensures c.explain.ensures
+    told_refusal _ _ _ _ _ c.settings_of-settings.result c.execution_of_run-made.result c.explain.result c.settings_of-settings.ensures c.explain.ensures
     (rw c.deref.ensures.value at c.execution_of_run-made.ensures.in_order)
     (λ none. on_error c.execution_of_run-made.result _ _ (λ e h. inl h) (rw c.deref.ensures.value at (c.execution_of_run-made.ensures.errors none)))

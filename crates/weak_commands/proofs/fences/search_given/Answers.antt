@@ -14,7 +14,7 @@ returns-in_err-assumed-clause-errors g c =
     let asked = c.args.asked.now in
     let image = c.args.files.now.image.items in
     let p = err_from_is_err_and c.from_residual-in_err-assumed.result c.from_residual-in_err-assumed.ensures.1 in
-    rw (p.1, p.2) (unplaced_so asked c.args.list.now image c.in_ok-hunt.hunt _ c.in_ok-hunt.ensures.numbers (rw (c.deref-2.ensures.value, c.deref-3.ensures.value) at c.in_err-assumed.ensures.errors))
+    rw (p.1, p.2) (unplaced_so asked c.args.list.now image c.in_ok-hunt.hunt _ _ c.in_ok-hunt.ensures.numbers (rw (c.deref-2.ensures.value, c.deref-3.ensures.value) at c.in_err-assumed.ensures.errors))
 
 pub returns-in-Some-clause-errors : goal.returns-in-Some-clause-errors
 returns-in-Some-clause-errors g c =
@@ -26,7 +26,7 @@ returns-in-Some-clause-errors g c =
     inr (record {
       settings = s;
       numbers = c.in_ok-hunt.ensures.numbers;
-      refused = fault_so asked.search true (hunt_fault s) s image c.in-Some.fault c.refused_for.result named c.refused_for.ensures.settings
+      refused = fault_so asked.search true (hunt_fault s) s image _ c.in-Some.fault c.refused_for.result named c.refused_for.ensures.settings
           (rw c.deref-in-Some.ensures.value at c.refused_for.ensures.image) (rw c.deref-in-Some.ensures.value at c.refused_for.ensures.reason);
     })
 
@@ -77,8 +77,8 @@ returns-in_err-answer-in-None-clause-errors g c =
     rw (p.1, p.2) (inr (record {
       settings = s;
       numbers = numbers;
-      refused = told_so asked.search true (hunt_fault s) s image e good c.in_err-answer-in-None.ensures.settings
-          (λ none. refusal_so s image e (rw c.as_slice-image.ensures.value at (c.in_err-answer-in-None.ensures.errors none)))
+      refused = told_so asked.search true (hunt_fault s) s image _ e good c.in_err-answer-in-None.ensures.settings
+          (λ none. refusal_so s image _ _ e (λ more. inl more) (rw c.as_slice-image.ensures.value at (c.in_err-answer-in-None.ensures.errors none)))
           (rw c.as_slice-image.ensures.value at c.in_err-answer-in-None.ensures.image);
     }))
 

@@ -1,7 +1,11 @@
-use Rattle.std.proofs.Common.{[], ℕ, List, inl, inr, subst, ⊎_elim}
+use Rattle.std.proofs.Common.{[], ℕ, List, ap, inl, inr, option_map, refl, subst, ⊎_elim}
 use Rattle.host_io.specs.Taken.{BeganText}
+use Rattle.hunter.specs.Hunts.{hunt_fault}
+use Rattle.program_files.proofs.Failing.{why_cut}
 use Rattle.program_files.proofs.Told.{where_refused}
 use Rattle.host_io.proofs.Answered.{begun}
+use Rattle.weak_hunter.specs.WeakHunts.{IsWeakReason}
+use Rattle.weak_hunter.specs.declared.error.WeakHuntError.TheVariants.{Hunt}
 use Rattle.weak_commands.proofs.searches.FenceSearcherFenceSearches.search.Goals as goal
 
 pub returns-clause-begun : goal.returns-clause-begun
@@ -15,3 +19,7 @@ returns-clause-begun g c =
       tt,
       subst (λ (t : List ℕ). BeganText old new t) b.is_text.is_text b.began,
     )) h) (begun _ c.find_fences.ensures.writes)
+
+pub returns-clause-errors : goal.returns-clause-errors
+returns-clause-errors g c = λ none. why_cut (option_map Hunt (hunt_fault c.args.settings.hunt)) (IsWeakReason c.args.settings.hunt c.args.image.now) c.find_fences.result
+    c.find_fences.ensures.writes (inl refl) (ap (option_map Hunt) none)

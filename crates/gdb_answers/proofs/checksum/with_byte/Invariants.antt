@@ -1,6 +1,0 @@
-use Rattle.std.proofs.Common.{◌≡◌, ◌*◌, ◌^◌, bit_xor}
-use Rattle.gdb_answers.specs.Checksums.{times_x_to}
-use Rattle.gdb_answers.proofs.checksum.with_byte.Given as goal
-
-abbrev pub invariant-loop-done : goal.invariant-loop-done
-invariant-loop-done l = l.product ≡ times_x_to l.done (bit_xor l.fn.remainder (l.fn.byte * 2 ^ 24))
