@@ -1,0 +1,60 @@
+-- The comparison that `compare` prints, and why it ends without it. `holds` says what files hold, `lacks` that
+-- one couldn't be read for a fault, and `failed` that the output failed.
+use Rattle.std.specs.Prelude.{◌≡◌, ◌⊎◌, List, ℕ}
+use Rattle.command_line.specs.declared.settings.Compare.{Compare}
+use Rattle.host_io.specs.declared.error.RunError.TheVariants as refusals
+use Rattle.hunt_commands.specs.Merges.{HoldsTable, IsUntabled}
+use Rattle.hunt_commands.specs.declared.merge_failure.MergeFailure.{MergeFailure}
+use Rattle.hunt_commands.specs.declared.merge_failure.MergeFailure.TheVariants as reads
+use Rattle.hunt_commands.specs.declared.table_files.TableFile.{TableFile}
+use Rattle.hunt_comparison.specs.Text.{comparison_text}
+use Rattle.hunt_comparison.specs.Twins.{AreCompared}
+use Rattle.hunt_comparison.specs.Unlikes.{IsLike, IsUnlike}
+use Rattle.hunt_comparison.specs.declared.failure.CompareFailure.{CompareFailure}
+use Rattle.hunt_comparison.specs.declared.failure.CompareFailure.TheVariants as failures
+use Rattle.hunt_comparison.specs.declared.twins.Compared.{Compared}
+use Rattle.hunt_table.specs.declared.table.Table.{Table}
+use Rattle.program_files.specs.declared.failure.RunFailure.TheVariants as runs
+use Rattle.program_files.specs.declared.files.FileFault.{FileFault}
+
+-- the files of the paths held these tables
+pub record GivenTables (holds : List ℕ → List ℕ → Type 0) (asked : Compare) : Type 0 where
+  pub old : TableFile
+  pub new : TableFile
+  pub of_old : old.path.now ≡ asked.old.now
+  pub of_new : new.path.now ≡ asked.new.now
+  pub old_held : HoldsTable holds old
+  pub new_held : HoldsTable holds new
+
+-- the rows of each of two tables, with their twins in the other one
+pub record ComparedTables (old new : Table) : Type 0 where
+  pub olds : List Compared
+  pub news : List Compared
+  pub like : IsLike old new
+  pub of_old : AreCompared old.rows.items new.rows.items olds
+  pub of_new : AreCompared new.rows.items old.rows.items news
+
+-- the comparison that a line asks for
+pub record AskedComparison (holds : List ℕ → List ℕ → Type 0) (asked : Compare) : Type 0 where
+  pub given : GivenTables holds asked
+  pub made : ComparedTables given.old.table given.new.table
+
+-- its text
+abbrev pub compared_text : {old new : Table} → ComparedTables old new → List ℕ
+compared_text {old} {new} c = comparison_text old.header new.header c.olds c.news
+
+-- the table of a path wasn't read, or the output failed, or memory is refused
+abbrev pub IsUnread : (List ℕ → List ℕ → Type 0) → (List ℕ → FileFault → Type 0) → Compare → Type 0 → MergeFailure → Type 0
+IsUnread holds lacks asked failed failure = IsUntabled holds lacks asked.old.now failure ⊎ IsUntabled holds lacks asked.new.now failure
+    ⊎ (failure ≡ reads.Run (runs.Refused refusals.OutOfMemory)) ⊎ ((failure ≡ reads.Run (runs.Refused refusals.SinkFailed)) × failed)
+
+-- why the command ends without its comparison
+abbrev pub EndsComparison : (List ℕ → List ℕ → Type 0) → (List ℕ → FileFault → Type 0) → Compare → Type 0 → CompareFailure → Type 0
+EndsComparison holds lacks asked failed (failures.Table failure) = IsUnread holds lacks asked failed failure
+EndsComparison holds lacks asked failed (failures.Unlike why) = (g : GivenTables holds asked) × IsUnlike why g.old.table g.new.table
+
+-- the same where both tables were read
+abbrev pub IsComparedEnd : Table → Table → Type 0 → CompareFailure → Type 0
+IsComparedEnd old new failed (failures.Table failure) =
+    (failure ≡ reads.Run (runs.Refused refusals.OutOfMemory)) ⊎ ((failure ≡ reads.Run (runs.Refused refusals.SinkFailed)) × failed)
+IsComparedEnd old new failed (failures.Unlike why) = IsUnlike why old new

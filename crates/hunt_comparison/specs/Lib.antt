@@ -1,0 +1,6 @@
+pub mod Twins
+pub mod Text
+pub mod Status
+pub mod Unlikes
+pub mod Compares
+pub mod Failures
