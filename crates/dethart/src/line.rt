@@ -37,6 +37,8 @@ pub(crate) fn answer_line(rt: &HostRuntime, error: clap::Error) -> Result<ExitSt
         IfErr result (λ failure. (failure ≡ failures.Refused RunError.SinkFailed) ⊎ (failure ≡ failures.ReaderGone)) }
     ensures version { kind_of error ≡ ErrorKind.DisplayVersion →
         IfErr result (λ failure. (failure ≡ failures.Refused RunError.SinkFailed) ⊎ (failure ≡ failures.ReaderGone)) }
+    ensures done { IfOk result (λ status. ((kind_of error ≡ ErrorKind.DisplayHelp) ⊎
+        (kind_of error ≡ ErrorKind.DisplayVersion)) × (status ≡ ExitStatus.Done)) }
     ensures bad { kind_of error ≢ ErrorKind.OutOfMemory → kind_of error ≢ ErrorKind.DisplayHelp →
         kind_of error ≢ ErrorKind.DisplayVersion → result ≡ Err (failures.Line error) }
 {
@@ -54,7 +56,8 @@ pub(crate) fn answer_line(rt: &HostRuntime, error: clap::Error) -> Result<ExitSt
 fn unprinted(kind: io::ErrorKind) -> Failure
     ensures gone { kind ≡ kinds.BrokenPipe → result ≡ failures.ReaderGone }
     ensures failed { kind ≢ kinds.BrokenPipe → result ≡ failures.Refused RunError.SinkFailed }
-    ensures either { (result ≡ failures.Refused RunError.SinkFailed) ⊎ (result ≡ failures.ReaderGone) }
+    ensures either { (result ≡ failures.Refused RunError.SinkFailed) ⊎
+        (result ≡ failures.ReaderGone) }
 {
     match kind {
         io::ErrorKind::BrokenPipe => Failure::ReaderGone,

@@ -32,6 +32,7 @@ fn program_of<'a>(command: &'a Command<'_>) -> Option<&'a Program<'a>> {
         Command::Hunt(asked) => Some(&asked.search.program),
         Command::Shrink(asked) => Some(&asked.search.program),
         Command::Fences(asked) => Some(&asked.search.program),
+        Command::All(asked) => Some(&asked.search.program),
         _ => None,
     }
 }

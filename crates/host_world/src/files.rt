@@ -91,7 +91,11 @@ impl Files for HostFiles<'_> {
 
     ghost marked = { λ _ _ _ _. ⊤ };
 
+    ghost lacks = { λ _ _ _. ⊤ };
+
     ghost was_given = { λ _ _ _ _. ⊤ };
+
+    ghost wasnt_given = { λ _ _. ⊤ };
 
     fn read_whole(&self, path: &str) -> Result<Vec<u8>, FileFault> {
         let file = self.open(path)?;

@@ -11,6 +11,6 @@ mod weak_hunts;
 
 pub use files::HostFiles;
 pub use messages::HostMessages;
-pub use output::HostOutput;
+pub use output::{HostOutput, ReadOutput};
 pub use progress::Progress;
 pub use weak_hunts::WeakHunter;

@@ -2,6 +2,7 @@
 
 ghost use Rattle.std.specs.Prelude.{◌≡◌, None, false};
 
+use endings_finder::EndingsObserver;
 use fence_finder::FenceObserver;
 use hunter::{HuntObserver, ShrinkObserver};
 use machine::{Observer, UntracedMachine};
@@ -213,6 +214,17 @@ impl FenceObserver for Progress<'_> {
             );
         }
         self.next_block()
+    }
+}
+
+impl EndingsObserver for Progress<'_> {
+    fn look(&mut self, nodes: u64, stores: u64, endings: u64) -> bool {
+        if let Some(seconds) = self.next_second() {
+            let _unwritten = eprint!(self.rt;
+                "\r{nodes} nodes, up to {stores} stores, {endings} endings, {seconds} s\x1b[K"
+            );
+        }
+        HuntObserver::has_time(self)
     }
 }
 

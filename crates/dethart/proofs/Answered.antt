@@ -1,0 +1,45 @@
+-- The status of a command, by that of its answer.
+use Rattle.std.proofs.Common.{◌≡◌, ◌⊎◌, ℕ, List, Err, IfErr, IfOk, Ok, Result, inl, inr, refl, subst, sym, ⊎_elim}
+use Rattle.clap.specs.Words.{IsAmong, kind_of}
+use Rattle.clap.specs.declared.error.Error.{Error}
+use Rattle.clap.specs.declared.error.kind.ErrorKind.{ErrorKind}
+use Rattle.clap.specs.declared.error.kind.ErrorKind.TheVariants.{DisplayHelp, DisplayVersion, OutOfMemory}
+use Rattle.command_line.specs.Faults.{line_fault}
+use Rattle.command_line.specs.declared.settings.Command.{Command}
+use Rattle.dethart.specs.Answers.{AskForText, FileRelations, IsDoneBy, OrRefused}
+use Rattle.dethart.specs.Status.{status_of}
+use Rattle.dethart.specs.declared.failure.Failure.{Failure}
+use Rattle.dethart.specs.declared.failure.Failure.TheVariants as failures
+use Rattle.program_files.specs.declared.exit_status.ExitStatus.{ExitStatus}
+use Rattle.program_files.specs.declared.exit_status.ExitStatus.TheVariants.{BadLine, Refused}
+
+-- what is promised of an answer is so of the status, which is that of the answer or of a refusal
+pub finished : {E : Type 0} (r : Result ExitStatus E) (IsDone : ExitStatus → Type 0) (status : ExitStatus) →
+    IfOk r (λ s. status ≡ s) → IfErr r (λ _. status ≡ Refused) → IfOk r IsDone → OrRefused IsDone status
+finished (Ok s) IsDone status done refused h = inl (subst IsDone (sym done) h)
+finished (Err e) IsDone status done refused h = inr refused
+
+-- of what was done, so much is promised of the command's status
+pub status_by : {Done : Type 0} (f : FileRelations) (command other : Command) (status : ExitStatus) → command ≡ other → (Done → IsDoneBy f other status) → Done ⊎ (status ≡ Refused) →
+    OrRefused (IsDoneBy f command) status
+status_by f command other status is more h = ⊎_elim (λ done. inl (subst (λ (c : Command). IsDoneBy f c status) (sym is) (more done))) (λ refused. inr refused) h
+
+-- a line that comes to no command is bad, or refused
+pub bad_or_refused : (f : Failure) → (status_of f ≡ BadLine) ⊎ (status_of f ≡ Refused)
+bad_or_refused (failures.Line error) = inl refl
+bad_or_refused failures.NotText = inl refl
+bad_or_refused (failures.Refused error) = inr refl
+bad_or_refused failures.ReaderGone = inr refl
+
+-- an error by which a text is printed is that of words that ask for it
+pub asks : (words : List (List ℕ)) (e : Error) → (kind_of e ≡ OutOfMemory) ⊎ IsAmong (kind_of e) (line_fault words) →
+    (kind_of e ≡ DisplayHelp) ⊎ (kind_of e ≡ DisplayVersion) → AskForText words
+asks words e has is = ⊎_elim (λ memory. absurd (⊎_elim (λ help. no_help memory help) (λ version. no_version memory version) is)) (λ among.
+    ⊎_elim (λ help. inl (subst (λ (k : ErrorKind). IsAmong k (line_fault words)) help among))
+    (λ version. inr (subst (λ (k : ErrorKind). IsAmong k (line_fault words)) version among)) is) has
+  where
+    no_help : kind_of e ≡ OutOfMemory → kind_of e ≡ DisplayHelp → ⊥
+    no_help a b = cc
+
+    no_version : kind_of e ≡ OutOfMemory → kind_of e ≡ DisplayVersion → ⊥
+    no_version a b = cc
