@@ -7,7 +7,6 @@
 #   PAGES=1024         memory, in pages; dethart has to be given as many by --pages
 #   START=0, 1         when new threads begin: 0 at once, 1 when the one that created them waits, 2 one or the other
 #   ROUND_NS=1000      nanoseconds of the guest's clock in a round
-#   SPURIOUS=1         a wait for a condition may come back without a signal
 #   SMALL=1            lines for file and function names alone, and none for picolibc: as the examples are built
 
 PICOLIBC = /usr/lib/picolibc/riscv64-unknown-elf
@@ -17,7 +16,6 @@ ARGS =
 LIBS =
 START = 2
 ROUND_NS = 1000000
-SPURIOUS = 0
 
 ifeq ($(wildcard $(PICOLIBC)/include/stdio.h),)
 $(error there is no C library in $(PICOLIBC): apt-get install gcc-riscv64-unknown-elf picolibc-riscv64-unknown-elf)
@@ -61,8 +59,7 @@ arguments = { printf '.globl __kit_arguments\n.type __kit_arguments, @object\n.d
 .PHONY: anew
 anew:
 
-spurious = $(if $(filter 1,$(SPURIOUS)),$(built)/spurious.o)
-own = $(built)/start.o $(in_place:%=$(built)/%.o) $(spurious) $(built)/$(notdir $@).arguments.o
+own = $(built)/start.o $(in_place:%=$(built)/%.o) $(built)/$(notdir $@).arguments.o
 define link_program
 	@$(arguments) | $(CROSS)gcc $(arch) -c -x assembler - -o $(built)/$(notdir $@).arguments.o
 	$(1) $(layout) $(own) $(2) $< $(LIBS) $(3) $(libraries) -o $@
@@ -70,7 +67,7 @@ define link_program
 endef
 compile_c = $(CROSS)gcc $(target) -O1 $(headers) $(CFLAGS)
 
-ready = $(built)/start.o $(in_place:%=$(built)/%.o) $(spurious) $(built)/libkit.a $(built)/libgcc.a $(if $(SMALL),$(built)/libc.a) anew
+ready = $(built)/start.o $(in_place:%=$(built)/%.o) $(built)/libkit.a $(built)/libgcc.a $(if $(SMALL),$(built)/libc.a) anew
 
 %.elf: %.c $(ready)
 	$(call link_program,$(compile_c))
@@ -111,8 +108,6 @@ names_weak = $(CROSS)nm --defined-only --extern-only $$made | awk '{ print $$3 }
 $(built)/%.o: $(kit)/pthreads/source/%.c $(sources)
 	$(call build,$(CROSS)gcc $(target) -O2 -std=gnu11 -D_GNU_SOURCE -Wall -Wextra $(headers) \
 	    -c '$(folder)/pthreads/source/$*.c' -o $$made && $(names_weak))
-
-$(built)/spurious.o: $(kit)/pthreads/source/conditions.c
 
 .PRECIOUS: $(built)/%.o
 

@@ -1,10 +1,14 @@
-// Conditions: a queue of those that wait. A signal wakes the first, never one that comes later, and nobody wakes without one, but by spurious.c.
+// Conditions: a queue of those that wait. A signal wakes the first, never one that comes later, and nobody wakes without one, but with
+// --spurious.
 //
 // A thread waits on its own stack, so the one that wakes it is done with its record before it stores `woken`. By the manual's
 // table A.6: signal is a release store (fence rw,w; sw), the end of the wait an acquire load (lw; fence r,rw), and the queue
 // is under a lock by tickets.
 #include <errno.h>
 #include "ticket.h"
+
+// With --spurious, dethart runs the program with a 1 here, in place of the file's 0: so the file has bytes for it.
+volatile unsigned dethart_spurious __attribute__((section(".data"))) = 0;
 
 struct __waiter {
     volatile unsigned woken;
@@ -48,6 +52,14 @@ static bool leave_queue(pthread_cond_t *cond, struct __waiter *waiter)
     return was_there;
 }
 
+// Whether a wait comes back in this round without a signal, as POSIX and C11 let it: with --spurious in about one round of sixteen. Which
+// ones these are is the same in each run: so a plan, by which the waits begin in other rounds than by another one, has its own, and a
+// recorded run has them again.
+static bool comes_back_alone(void)
+{
+    return dethart_spurious && (round_number() * 2654435761u >> 16 & 15) == 0;
+}
+
 // Waits for a signal: 0. ECANCELED or ETIMEDOUT where that came before one.
 static int await_signal(pthread_cond_t *cond, struct __waiter *waiter, const struct timespec *until)
 {
@@ -59,7 +71,7 @@ static int await_signal(pthread_cond_t *cond, struct __waiter *waiter, const str
             reason = ECANCELED;
         else if (until && now >= __kit_round_of(until))
             reason = ETIMEDOUT;
-        if (reason || COMES_BACK_ALONE()) {
+        if (reason || comes_back_alone()) {
             if (leave_queue(cond, waiter))
                 return reason;
             while (!waiter->woken) // a signal has it already

@@ -139,9 +139,4 @@ void __kit_flush_output(void);
 #define __KIT_WARNING(name, why) \
     __asm__(".pushsection .gnu.warning." #name ", \"\", @progbits\n.ascii \"" #name ": " why "\"\n.popsection");
 
-// Whether a wait for a condition comes back in this round without a signal: spurious.c has another answer.
-#ifndef COMES_BACK_ALONE
-#define COMES_BACK_ALONE() false
-#endif
-
 #endif
