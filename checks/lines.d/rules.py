@@ -173,4 +173,28 @@ def full(pages):
     return f"{head}{''.join(memory)}output 0\ntrace 0\nend\n".encode()
 
 
+# Tables
+
+# The polynomial of the CRC-32 that gdb's qCRC has, but for x^32: x^26 + x^23 + x^22 + x^16 + x^12 + x^11 + x^10 + x^8 + x^7 + x^5 + x^4 + x^2 + x + 1.
+POLYNOMIAL = sum(1 << power for power in (26, 23, 22, 16, 12, 11, 10, 8, 7, 5, 4, 2, 1, 0))
+
+
+def divided(remainder):
+    """The remainder of a polynomial of 32 bits times x^8."""
+    for _ in range(8):
+        remainder = (remainder << 1) ^ (POLYNOMIAL | 1 << 32 if remainder >> 31 else 0)
+    return remainder
+
+
+BYTES = [divided(byte << 24) for byte in range(256)]
+
+
+def checksum(text):
+    """The CRC-32 of a text: the highest bit of each byte first, from all ones on, and nothing done to it at the end."""
+    remainder = 0xFFFFFFFF
+    for byte in text:
+        remainder = (remainder << 8 & 0xFFFFFFFF) ^ BYTES[remainder >> 24 ^ byte]
+    return remainder
+
+
 RULES = {rule.__name__: rule for rule in (elf_on_2_pages, plan_for_2_harts, recording)}
