@@ -60,7 +60,8 @@ pub fn all_command<
         IsUnprinted (failure_number f) (O.took out.old) (O.took out.new)) }
     // Where the line names no folder, no file was written.
     ensures unasked { asked.now.keep ≡ None → files.new ≡ files.old }
-    ensures errors { IfErr result (EndsAll (F.holds files.old) (F.begins files.old) (F.lacks files.old)
+    ensures errors { IfErr result (EndsAll (F.holds files.old) (F.begins files.old)
+        (F.lacks files.old)
         (F.wasnt_given files.new) asked.now (HasFailed O.failures O.is_stuck out.old out.new)) }
 {
     let given = read_program(files, alloc, &asked.search.program)?;

@@ -170,7 +170,8 @@ fn are_unread(trace: &Trace, index: usize, access: &Access) -> bool
 /// Whether it left each of them as its hart saw it.
 fn are_left(trace: &Trace, index: usize, access: &Access) -> bool
     requires { address_of access.now < 2 ^ 32 }
-    ensures { result ≡ list_all (leaves trace.now.events (opening_at trace.now.opening) index) (bytes access.now) }
+    ensures { result ≡ list_all (leaves trace.now.events (opening_at trace.now.opening) index)
+        (bytes access.now) }
 {
     let first = access.address();
     let end = first + access.byte_count();

@@ -63,7 +63,8 @@ fn writes_some(trace: &Trace, access: &Access, index: usize) -> bool
 /// Whether an event between two indexes writes a byte of an access.
 fn is_written_between(trace: &Trace, access: &Access, first: usize, second: usize) -> bool
     requires { address_of access.now < 2 ^ 32 }
-    ensures { result ≡ list_any (writes_some trace.now.events access.now) (between (first + 1) second) }
+    ensures { result ≡ list_any (writes_some trace.now.events access.now)
+        (between (first + 1) second) }
 {
     if first >= second {
         return false;

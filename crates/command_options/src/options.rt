@@ -62,7 +62,8 @@ fn is_subcommand(name: &str) -> bool
 
 /// The command with the subcommand of this name alone.
 fn with_one_subcommand<'a>(alloc: Global, name: &str) -> Result<Command<'a>, AllocError>
-    ensures { IfOk result (λ command. app_of command ≡ with_commands bare_app (named_app name.now ∷ [])) }
+    ensures { IfOk result (λ command. app_of command
+        ≡ with_commands bare_app (named_app name.now ∷ [])) }
 {
     let bare = bare_command(alloc);
     with_subcommand(Ok(bare), subcommand_named(alloc, name))

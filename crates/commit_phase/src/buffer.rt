@@ -10,8 +10,10 @@ use store_buffer::StoreBuffer;
 /// Breaks the reservations of other harts of which the buffer has a byte, if there are some.
 pub(crate) fn break_others(reservations: &mut Reservations, hart: u32, buffer: &StoreBuffer)
     ensures size { length reservations.new ≡ length reservations.old }
-    ensures reservations { (h : ℕ) → h < length reservations.old → entry reservations.new h ≡ (if hart == h then entry
-        reservations.old h else unless (covered (stores_of buffer.now)) (entry reservations.old h)) }
+    ensures reservations { (h : ℕ) → h < length reservations.old →
+        entry reservations.new h ≡ (if hart == h then entry
+        reservations.old h else unless (covered (stores_of buffer.now))
+        (entry reservations.old h)) }
 {
     // A hart that waits for a lock has often stored nothing.
     if buffer.is_empty() || reservations.is_only_of(hart) {

@@ -14,7 +14,8 @@ use round_schedule::{MOST_HARTS, Reservations};
 pub fn commit<B: Buffered>(pages: &mut Pages, reservations: &mut Reservations, rounds: &[B])
     requires few { length rounds.now ≤ MOST_HARTS }
     requires writable { All (IsWritable pages.old) (map B.bytes rounds.now) }
-    ensures { CommitsBuffers (map B.bytes rounds.now) pages.old pages.new reservations.old reservations.new }
+    ensures { CommitsBuffers (map B.bytes rounds.now) pages.old pages.new reservations.old
+        reservations.new }
 {
     let unready = pages.unready();
     write_all(pages.parts(), 0, rounds);
@@ -27,7 +28,8 @@ pub(crate) fn break_all<B: Buffered>(reservations: &mut Reservations, rounds: &[
     requires few { length rounds.now ≤ MOST_HARTS }
     ensures size { length reservations.new ≡ length reservations.old }
     ensures reservations { (h : ℕ) → h < length reservations.old →
-        entry reservations.new h ≡ unless (covered_from 0 h (map B.bytes rounds.now)) (entry reservations.old h) }
+        entry reservations.new h ≡ unless (covered_from 0 h (map B.bytes rounds.now))
+        (entry reservations.old h) }
 {
     let mut hart = 0;
     for round in rounds {

@@ -27,7 +27,8 @@ pub fn commit_on<R: Threads + Sync, B: Buffered + Sync, G: ShardGate + Sync>(
     requires some_workers { 1 ≤ workers }
     requires few { length rounds.now ≤ MOST_HARTS }
     requires writable { All (IsWritable pages.old) (map B.bytes rounds.now) }
-    ensures { CommitsBuffers (map B.bytes rounds.now) pages.old pages.new reservations.old reservations.new }
+    ensures { CommitsBuffers (map B.bytes rounds.now) pages.old pages.new reservations.old
+        reservations.new }
 {
     let count = pages.count();
     let size = count.div_ceil(workers).max(1);

@@ -35,7 +35,8 @@ pub fn debug_command<F: PastFiles, S: Source, K: Sink, E: Sink, R: Threads + Wai
 ) -> Result<ExitStatus, RunError>
     // What was read was answered, and nothing else: as the run or the execution of the line's file has it, and then the status is 0; or by
     // the number of what refuses it, and then it is 1, or 3 where RVWMO doesn't allow the execution.
-    ensures serves { IfOk result (λ status. IsDebugged (F.either files.now) (F.lacks files.now) asked.now.recording.now status
+    ensures serves { IfOk result (λ status.
+        IsDebugged (F.either files.now) (F.lacks files.now) asked.now.recording.now status
         (record {
           gave = S.gave requests.old;
           gave_then = S.gave requests.new;

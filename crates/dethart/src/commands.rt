@@ -16,7 +16,8 @@ pub(crate) fn finish_command<F: PastFiles, R: Threads + Wait + Sync>(
     files: &mut F,
     command: &Command<'_>,
 ) -> ExitStatus
-    ensures { IsStatusOf (F.holds files.old) (F.begins files.old) (F.marked files.old) (F.either files.old)
+    ensures { IsStatusOf (F.holds files.old) (F.begins files.old) (F.marked files.old)
+        (F.either files.old)
         (F.lacks files.old) command.now result }
 {
     match command {

@@ -21,7 +21,8 @@ pub(crate) fn serve_debugger<F: PastFiles, R: Threads + Wait + Sync>(
     asked: &Gdb<'_>,
 ) -> ExitStatus
     ensures { OrRefused (λ status. (w : Dialogue) ×
-        IsDebugged (F.either files.now) (F.lacks files.now) asked.now.recording.now status w) result }
+        IsDebugged (F.either files.now) (F.lacks files.now) asked.now.recording.now status w)
+        result }
 {
     let mut requests = ReadSource::new(rt.reader());
     let mut replies = WriteSink::new(io::writer(rt));

@@ -34,9 +34,11 @@ pub(crate) fn answer_line(rt: &HostRuntime, error: clap::Error) -> Result<ExitSt
     ensures memory { kind_of error ≡ ErrorKind.OutOfMemory →
         result ≡ Err (failures.Refused RunError.OutOfMemory) }
     ensures help { kind_of error ≡ ErrorKind.DisplayHelp →
-        IfErr result (λ failure. (failure ≡ failures.Refused RunError.SinkFailed) ⊎ (failure ≡ failures.ReaderGone)) }
+        IfErr result (λ failure. (failure ≡ failures.Refused RunError.SinkFailed) ⊎
+        (failure ≡ failures.ReaderGone)) }
     ensures version { kind_of error ≡ ErrorKind.DisplayVersion →
-        IfErr result (λ failure. (failure ≡ failures.Refused RunError.SinkFailed) ⊎ (failure ≡ failures.ReaderGone)) }
+        IfErr result (λ failure. (failure ≡ failures.Refused RunError.SinkFailed) ⊎
+        (failure ≡ failures.ReaderGone)) }
     ensures done { IfOk result (λ status. ((kind_of error ≡ ErrorKind.DisplayHelp) ⊎
         (kind_of error ≡ ErrorKind.DisplayVersion)) × (status ≡ ExitStatus.Done)) }
     ensures bad { kind_of error ≢ ErrorKind.OutOfMemory → kind_of error ≢ ErrorKind.DisplayHelp →

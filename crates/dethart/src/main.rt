@@ -42,8 +42,10 @@ fn end<F: PastFiles, R: Threads + Wait + Sync>(
     threads: &R,
     files: &mut F,
 ) -> ExitCode
-    ensures { (status : Status) × EndsProgram (F.holds files.old) (F.begins files.old) (F.marked files.old)
-        (F.either files.old) (F.lacks files.old) status × (exit_status result ≡ status_number status) }
+    ensures { (status : Status) ×
+        EndsProgram (F.holds files.old) (F.begins files.old) (F.marked files.old)
+        (F.either files.old) (F.lacks files.old) status ×
+        (exit_status result ≡ status_number status) }
 {
     let status = status_of_line(rt, threads, files);
     ExitCode::from(status.number())
@@ -55,7 +57,8 @@ fn status_of_line<F: PastFiles, R: Threads + Wait + Sync>(
     threads: &R,
     files: &mut F,
 ) -> ExitStatus
-    ensures { EndsProgram (F.holds files.old) (F.begins files.old) (F.marked files.old) (F.either files.old)
+    ensures { EndsProgram (F.holds files.old) (F.begins files.old) (F.marked files.old)
+        (F.either files.old)
         (F.lacks files.old) result }
 {
     match start(rt, threads, files) {
@@ -74,7 +77,8 @@ fn start<F: PastFiles, R: Threads + Wait + Sync>(
     threads: &R,
     files: &mut F,
 ) -> Result<ExitStatus, Failure>
-    ensures { IfOk result (λ status. (words : List (List ℕ)) × EndsLine (F.holds files.old) (F.begins files.old)
+    ensures { IfOk result (λ status. (words : List (List ℕ)) ×
+        EndsLine (F.holds files.old) (F.begins files.old)
         (F.marked files.old) (F.either files.old) (F.lacks files.old) words status) }
 {
     let arguments = arguments(rt)?;
@@ -88,7 +92,8 @@ fn obey_arguments<F: PastFiles, R: Threads + Wait + Sync>(
     files: &mut F,
     arguments: &[String],
 ) -> Result<ExitStatus, Failure>
-    ensures { IfOk result (λ status. (words : List (List ℕ)) × EndsLine (F.holds files.old) (F.begins files.old)
+    ensures { IfOk result (λ status. (words : List (List ℕ)) ×
+        EndsLine (F.holds files.old) (F.begins files.old)
         (F.marked files.old) (F.either files.old) (F.lacks files.old) words status) }
 {
     let words = texts_of(rt.alloc(), arguments)?;
@@ -102,7 +107,8 @@ fn obey_words<F: PastFiles, R: Threads + Wait + Sync>(
     files: &mut F,
     words: &[&str],
 ) -> Result<ExitStatus, Failure>
-    ensures { IfOk result (EndsLine (F.holds files.old) (F.begins files.old) (F.marked files.old) (F.either files.old)
+    ensures { IfOk result (EndsLine (F.holds files.old) (F.begins files.old) (F.marked files.old)
+        (F.either files.old)
         (F.lacks files.old) (map (λ s. s.now) words.now)) }
 {
     let words = asked_by_options(rt.alloc(), words)?;
@@ -119,7 +125,8 @@ fn obey<F: PastFiles, R: Threads + Wait + Sync>(
     files: &mut F,
     command: &Command<'_>,
 ) -> ExitStatus
-    ensures { IsStatusOf (F.holds files.old) (F.begins files.old) (F.marked files.old) (F.either files.old)
+    ensures { IsStatusOf (F.holds files.old) (F.begins files.old) (F.marked files.old)
+        (F.either files.old)
         (F.lacks files.old) command.now result }
 {
     let status = finish_command(rt, threads, files, command);

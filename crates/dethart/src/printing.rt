@@ -64,7 +64,8 @@ pub(crate) fn print_answer<F: PastFiles, R: Threads + Wait + Sync>(
     files: &mut F,
     command: &Command<'_>,
 ) -> ExitStatus
-    ensures { IsStatusOf (F.holds files.old) (F.begins files.old) (F.marked files.old) (F.either files.old)
+    ensures { IsStatusOf (F.holds files.old) (F.begins files.old) (F.marked files.old)
+        (F.either files.old)
         (F.lacks files.old) command.now result }
 {
     match HostOutput::new(rt) {
@@ -81,7 +82,8 @@ fn put_answer<F: PastFiles, O: ReadOutput, R: Threads + Wait + Sync>(
     command: &Command<'_>,
     out: &mut O,
 ) -> ExitStatus
-    ensures { IsStatusOf (F.holds files.old) (F.begins files.old) (F.marked files.old) (F.either files.old)
+    ensures { IsStatusOf (F.holds files.old) (F.begins files.old) (F.marked files.old)
+        (F.either files.old)
         (F.lacks files.old) command.now result }
 {
     match command {
@@ -114,8 +116,10 @@ fn put_run<F: Files, O: ReadOutput, R: Threads + Wait + Sync>(
     asked: &Print<'_>,
     out: &mut O,
 ) -> ExitStatus
-    ensures { OrRefused (λ status. (a : AskedRun (F.holds files.now) (F.begins files.now) asked.now.run) ×
-        (O.took out.new ≡ O.took out.old ++ printed_text asked.now a.made.settings a.image a.input a.made.plan) ×
+    ensures { OrRefused (λ status.
+        (a : AskedRun (F.holds files.now) (F.begins files.now) asked.now.run) ×
+        (O.took out.new ≡ O.took out.old ++ printed_text asked.now a.made.settings a.image a.input
+        a.made.plan) ×
         O.is_out out.new × (status ≡ run_status asked.now.strict
         (end_of (after_run a.made.settings a.image a.input a.made.plan).state.harts))) result }
 {
@@ -141,9 +145,12 @@ fn put_order<F: Files, O: ReadOutput, R: Threads + Wait + Sync>(
     run: &Run<'_>,
     out: &mut O,
 ) -> ExitStatus
-    ensures { OrRefused (λ status. (a : AskedRun (F.holds files.now) (F.begins files.now) run.now) × (indices : List ℕ) ×
-        IsOrderOfRun a.made.settings a.image a.input a.made.plan indices × (O.took out.new ≡ O.took out.old ++
-        ordered_text a.made.settings a.image a.input a.made.plan indices) × O.is_out out.new × (status ≡ statuses.Done)) result }
+    ensures { OrRefused (λ status. (a : AskedRun (F.holds files.now) (F.begins files.now) run.now) ×
+        (indices : List ℕ) ×
+        IsOrderOfRun a.made.settings a.image a.input a.made.plan indices ×
+        (O.took out.new ≡ O.took out.old ++
+        ordered_text a.made.settings a.image a.input a.made.plan indices) × O.is_out out.new ×
+        (status ≡ statuses.Done)) result }
 {
     let mut progress = progress_of(rt, &run.program);
     let answer = order_command(threads, rt.alloc(), files, run, &mut progress, out);
@@ -160,7 +167,8 @@ fn put_replay<F: PastFiles, O: ReadOutput, R: Threads + Wait + Sync>(
     out: &mut O,
 ) -> ExitStatus
     ensures { OrRefused (λ status. (a : AskedReplay (F.either files.now) asked.now) ×
-        (O.took out.new ≡ O.took out.old ++ a.answer.text) × O.is_out out.new × (status ≡ a.answer.status)) result }
+        (O.took out.new ≡ O.took out.old ++ a.answer.text) × O.is_out out.new ×
+        (status ≡ a.answer.status)) result }
 {
     let mut progress = Progress::new(rt, asked.progress, 0);
     let answer = replay_command(
@@ -210,7 +218,8 @@ fn put_hunt<F: Files, O: ReadOutput, R: Threads + Wait + Sync>(
     asked: &Hunt<'_>,
     out: &mut O,
 ) -> ExitStatus
-    ensures { OrRefused (λ status. (a : AskedHunt (F.holds files.now) (F.begins files.now) (λ _ _ _ _ _ _. ⊤) asked.now) ×
+    ensures { OrRefused (λ status.
+        (a : AskedHunt (F.holds files.now) (F.begins files.now) (λ _ _ _ _ _ _. ⊤) asked.now) ×
         (O.took out.new ≡ O.took out.old ++ hunt_text a.made) × O.is_out out.new ×
         (status ≡ hunt_status asked.now.fail_on a.made.rows)) result }
 {
@@ -247,10 +256,12 @@ fn put_fences<F: Files, O: ReadOutput, R: Threads + Wait + Sync>(
     asked: &Fences<'_>,
     out: &mut O,
 ) -> ExitStatus
-    ensures { OrRefused (λ status. (a : AskedSearch (F.holds files.old) (F.begins files.old) (λ _ _ _ _ _. ⊤) asked.now) ×
+    ensures { OrRefused (λ status.
+        (a : AskedSearch (F.holds files.old) (F.begins files.old) (λ _ _ _ _ _. ⊤) asked.now) ×
         (O.took out.new ≡ O.took out.old ++ fences_text a.made.table) × O.is_out out.new ×
         (status ≡ fences_status asked.now.fail_on a.made.table) ×
-        AreSaved F.was_given (fences_kept asked.now) (map as_recorded a.made.executions) files.old files.new) result }
+        AreSaved F.was_given (fences_kept asked.now) (map as_recorded a.made.executions) files.old
+        files.new) result }
 {
     let mut progress = Progress::new(rt, asked.search.program.progress, asked.plans);
     let answer = fences_command(
@@ -276,10 +287,12 @@ fn put_all<F: Files, O: ReadOutput>(
     asked: &AllEndings<'_>,
     out: &mut O,
 ) -> ExitStatus
-    ensures { OrRefused (λ status. (a : AskedEndings (F.holds files.old) (F.begins files.old) (λ _ _ _ _ _. ⊤) asked.now) ×
+    ensures { OrRefused (λ status.
+        (a : AskedEndings (F.holds files.old) (F.begins files.old) (λ _ _ _ _ _. ⊤) asked.now) ×
         (O.took out.new ≡ O.took out.old ++ table_text a.made.table) × O.is_out out.new ×
         (status ≡ all_status a.made.table) ×
-        AreSaved F.was_given (endings_kept asked.now) (map as_recorded a.made.executions) files.old files.new) result }
+        AreSaved F.was_given (endings_kept asked.now) (map as_recorded a.made.executions) files.old
+        files.new) result }
 {
     let told = asked.search.program.progress;
     let mut progress = Progress::of_hunt(rt, told, asked.nodes, 1, asked.seconds);
@@ -306,8 +319,10 @@ fn put_shrunk<F: Files, O: ReadOutput, R: Threads + Wait + Sync>(
     asked: &Shrink<'_>,
     out: &mut O,
 ) -> ExitStatus
-    ensures { OrRefused (λ status. (a : AskedShrink (F.holds files.now) (F.begins files.now) asked.now) ×
-        (O.took out.new ≡ O.took out.old ++ shrunk_text a.made) × O.is_out out.new × (status ≡ statuses.Done)) result }
+    ensures { OrRefused (λ status.
+        (a : AskedShrink (F.holds files.now) (F.begins files.now) asked.now) ×
+        (O.took out.new ≡ O.took out.old ++ shrunk_text a.made) × O.is_out out.new ×
+        (status ≡ statuses.Done)) result }
 {
     let mut progress = Progress::new(rt, asked.search.program.progress, 0);
     let answer = shrink_command(
@@ -358,7 +373,8 @@ fn put_compared<F: Files, O: ReadOutput>(
 #[inline(never)]
 fn put_plan<O: ReadOutput>(rt: &HostRuntime, asked: &Plan, out: &mut O) -> ExitStatus
     ensures { OrRefused (λ status. (text : List ℕ) × IsAskedPlan asked.now text ×
-        (O.took out.new ≡ O.took out.old ++ text) × O.is_out out.new × (status ≡ statuses.Done)) result }
+        (O.took out.new ≡ O.took out.old ++ text) × O.is_out out.new ×
+        (status ≡ statuses.Done)) result }
 {
     let answer = plan_command(rt.alloc(), asked, out, &HostMessages { rt });
     finish_printing(rt, out.reader_is_gone(), answer)
@@ -373,8 +389,10 @@ fn put_drawing<F: Files, O: ReadOutput, R: Threads + Wait + Sync>(
     asked: &Draw<'_>,
     out: &mut O,
 ) -> ExitStatus
-    ensures { OrRefused (λ status. (a : AskedDraw (F.holds files.now) (F.begins files.now) asked.now) ×
-        Draws asked.now a.image a.input a.text a.budget (O.took out.old) (O.took out.new) status × O.is_out out.new) result }
+    ensures { OrRefused (λ status.
+        (a : AskedDraw (F.holds files.now) (F.begins files.now) asked.now) ×
+        Draws asked.now a.image a.input a.text a.budget (O.took out.old) (O.took out.new) status ×
+        O.is_out out.new) result }
 {
     let mut progress = progress_of(rt, &asked.run.program);
     let answer = draw_command(
@@ -399,7 +417,8 @@ fn put_trace<F: Files, O: ReadOutput, R: Threads + Wait + Sync>(
     out: &mut O,
 ) -> ExitStatus
     ensures { OrRefused (λ status. (a : AskedRun (F.holds files.now) (F.begins files.now) run.now) ×
-        (O.took out.new ≡ O.took out.old ++ trace_events_after a.made.settings a.image a.input a.made.plan) ×
+        (O.took out.new ≡ O.took out.old ++ trace_events_after a.made.settings a.image a.input
+        a.made.plan) ×
         O.is_out out.new × (status ≡ statuses.Done)) result }
 {
     let mut progress = progress_of(rt, &run.program);
@@ -416,8 +435,10 @@ fn put_execution<F: Files, O: ReadOutput, R: Threads + Wait + Sync>(
     asked: &Execution<'_>,
     out: &mut O,
 ) -> ExitStatus
-    ensures { OrRefused (λ status. (a : AskedExecution (F.holds files.now) (F.begins files.now) (λ _ _ _ _ _ _. ⊤) asked.now) ×
-        (O.took out.new ≡ O.took out.old ++ execution.spelled a.file) × O.is_out out.new × (status ≡ statuses.Done)) result }
+    ensures { OrRefused (λ status.
+        (a : AskedExecution (F.holds files.now) (F.begins files.now) (λ _ _ _ _ _ _. ⊤) asked.now) ×
+        (O.took out.new ≡ O.took out.old ++ execution.spelled a.file) × O.is_out out.new ×
+        (status ≡ statuses.Done)) result }
 {
     let mut progress = progress_of(rt, &asked.run.program);
     let answer = execution_command(
@@ -440,8 +461,10 @@ fn put_check<F: Files, O: ReadOutput>(
     asked: &Check<'_>,
     out: &mut O,
 ) -> ExitStatus
-    ensures { OrRefused (λ status. (a : CheckedFile (F.holds files.now) asked.now.file.now) × (text : List ℕ) ×
-        IsVerdictText (checked_in a) text × (O.took out.new ≡ O.took out.old ++ text) × O.is_out out.new ×
+    ensures { OrRefused (λ status. (a : CheckedFile (F.holds files.now) asked.now.file.now) ×
+        (text : List ℕ) ×
+        IsVerdictText (checked_in a) text × (O.took out.new ≡ O.took out.old ++ text) ×
+        O.is_out out.new ×
         (status ≡ verdict_status (checked_in a).finding)) result }
 {
     let answer = check_command(rt.alloc(), files, asked, out);

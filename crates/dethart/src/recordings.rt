@@ -23,7 +23,8 @@ pub(crate) fn make_recording<F: Files, R: Threads + Wait + Sync>(
     files: &mut F,
     asked: &Record<'_>,
 ) -> ExitStatus
-    ensures { OrRefused (λ status. (a : AskedRun (F.holds files.old) (F.begins files.old) asked.now.run) × (n : ℕ) ×
+    ensures { OrRefused (λ status.
+        (a : AskedRun (F.holds files.old) (F.begins files.old) asked.now.run) × (n : ℕ) ×
         AreRecorded asked.now.until_stopped a.made.settings a.image a.input n ×
         F.was_given files.old files.new asked.now.out.now
         (recorded_text (for_rounds n a.made.settings) asked.now.every a.image a.input a.made.plan) ×
@@ -47,8 +48,10 @@ pub(crate) fn migrate_file<F: Files>(
     files: &mut F,
     asked: &Migrate<'_>,
 ) -> ExitStatus
-    ensures { OrRefused (λ status. (r : Recorded) × HoldsRecording (F.marked files.old) asked.now.recording.now r ×
-        F.was_given files.old files.new asked.now.out.now (migrated_text r) × (status ≡ statuses.Done)) result }
+    ensures { OrRefused (λ status. (r : Recorded) ×
+        HoldsRecording (F.marked files.old) asked.now.recording.now r ×
+        F.was_given files.old files.new asked.now.out.now (migrated_text r) ×
+        (status ≡ statuses.Done)) result }
 {
     finish(rt, migrate_command(rt.alloc(), files, asked))
 }

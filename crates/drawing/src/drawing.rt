@@ -36,7 +36,8 @@ pub fn draw_run<S: Sink, V: Visitor, R: Threads + Wait + Sync>(
     visitor: &mut V,
     out: &mut S,
 ) -> Result<(), RunError>
-    requires known { (start : Untraced) → V.knows visitor.old visitor.old start settings.now.rounds 0 }
+    requires known { (start : Untraced) →
+        V.knows visitor.old visitor.old start settings.now.rounds 0 }
     // The sink takes the picture of the run that the definitions name.
     ensures writes { WritesAnswer S.took S.failures
         (λ _. IsPictureOfRun settings.now files.now.image.now files.now.input.now view.now)
@@ -79,10 +80,12 @@ fn draw_rounds<S: Sink, V: Visitor, R: Threads + Wait + Sync>(
     requires workers { AreWorkers settings.now.workers }
     requires few_harts { machine.old.plan.harts ≤ MOST_HARTS }
     requires opened { machine.old.state.rounds ≡ 0 }
-    requires known { (start : Untraced) → V.knows visitor.old visitor.old start settings.now.rounds 0 }
+    requires known { (start : Untraced) →
+        V.knows visitor.old visitor.old start settings.now.rounds 0 }
     ensures writes { WritesAnswer S.took S.failures
         (λ _ text. text ≡ picture_of settings.now image.now machine.old view.now)
-        (λ e. e ≡ refusals.OutOfMemory) refusals.OutOfMemory refusals.SinkFailed out.old out.new result }
+        (λ e. e ≡ refusals.OutOfMemory) refusals.OutOfMemory refusals.SinkFailed out.old out.new
+        result }
     ensures memory { result ≡ Err refusals.OutOfMemory → S.took out.new ≡ S.took out.old }
     ensures waits { (out.new ≡ out.old) ⊎ ((u : Untraced) × IsUntraced machine.old u ×
         HasSeenAll V.knows visitor.old visitor.new u settings.now.rounds) }
@@ -104,7 +107,8 @@ fn run_drawn<V: Visitor, R: Threads + Wait + Sync>(
 ) -> Result<DrawnRounds, RunError>
     requires workers { AreWorkers settings.now.workers }
     requires opened { machine.old.state.rounds ≡ 0 }
-    requires known { (start : Untraced) → V.knows visitor.old visitor.old start settings.now.rounds 0 }
+    requires known { (start : Untraced) →
+        V.knows visitor.old visitor.old start settings.now.rounds 0 }
     ensures drawn { IfOk result (λ d. HasDrawnAll settings.now.rounds
         (before_drawn settings.now.rounds view.now) (last_drawn settings.now.rounds view.now)
         machine.old machine.new d) }
@@ -160,7 +164,8 @@ fn draw_machine<S: Sink, R: Threads + Wait + Sync>(
         machine.now drawn.old →
         WritesAnswer S.took S.failures
         (λ _ text. text ≡ picture_of settings.now image.now m view.now)
-        (λ e. e ≡ refusals.OutOfMemory) refusals.OutOfMemory refusals.SinkFailed out.old out.new result }
+        (λ e. e ≡ refusals.OutOfMemory) refusals.OutOfMemory refusals.SinkFailed out.old out.new
+        result }
     ensures memory { result ≡ Err refusals.OutOfMemory → S.took out.new ≡ S.took out.old }
 {
     let sites = sites_of(

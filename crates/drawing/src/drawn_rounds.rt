@@ -38,7 +38,8 @@ impl DrawnRounds {
         ensures before { IfOk result (λ d. d.before ≡ before) }
         ensures last { IfOk result (λ d. d.last ≡ last) }
         ensures start { IfOk result (λ d. IsUntraced machine.now d.start) }
-        ensures drawn { IfOk result (λ d. (m : Running) → IsUntraced m d.start → HasDrawn m before last d.start d.ends 0) }
+        ensures drawn { IfOk result (λ d. (m : Running) → IsUntraced m d.start →
+            HasDrawn m before last d.start d.ends 0) }
         ensures refused { IfErr result (λ e. e ≡ refusals.OutOfMemory) }
     {
         let start = machine.copy_untraced()?;
@@ -90,7 +91,8 @@ impl DrawnRounds {
         ensures last { self.new.last ≡ self.old.last }
         ensures start { self.new.start ≡ self.old.start }
         ensures ends { OnOk result (
-            ((machine.now.rounds ≡ self.old.last) × MatchOption self.new.ends ⊥ (λ v. v.items ≡ machine.now.harts)) ⊎
+            ((machine.now.rounds ≡ self.old.last) ×
+            MatchOption self.new.ends ⊥ (λ v. v.items ≡ machine.now.harts)) ⊎
             ((machine.now.rounds ≡ self.old.last → ⊥) × (self.new.ends ≡ self.old.ends))) }
     {
         if machine.rounds() != self.last {
@@ -102,8 +104,10 @@ impl DrawnRounds {
 
     /// The harts before the first round that is drawn, by the machine after all rounds: if that round wasn't done, no hart ran any more.
     pub(crate) fn harts_before<'a>(&'a self, machine: &'a Machine) -> &'a [Hart]
-        ensures harts { ((self.now.start.rounds ≡ self.now.before) × (result.now ≡ self.now.start.harts)) ⊎
-            ((self.now.start.rounds ≡ self.now.before → ⊥) × (result.now ≡ machine.now.state.harts)) }
+        ensures harts { ((self.now.start.rounds ≡ self.now.before) ×
+            (result.now ≡ self.now.start.harts)) ⊎
+            ((self.now.start.rounds ≡ self.now.before → ⊥) ×
+            (result.now ≡ machine.now.state.harts)) }
         ensures count { (length result.now ≡ self.now.start.plan.harts) ⊎
             (length result.now ≡ machine.now.plan.harts) }
     {
@@ -116,7 +120,8 @@ impl DrawnRounds {
 
     /// Those after the last round that is drawn.
     pub(crate) fn harts_after<'a>(&'a self, machine: &'a Machine) -> &'a [Hart]
-        ensures { MatchOption self.now.ends (result.now ≡ machine.now.state.harts) (λ v. result.now ≡ v.items) }
+        ensures { MatchOption self.now.ends (result.now ≡ machine.now.state.harts)
+            (λ v. result.now ≡ v.items) }
     {
         match &self.ends {
             Some(harts) => harts,
@@ -128,7 +133,8 @@ impl DrawnRounds {
 /// The harts of a machine that was just opened, if no round is drawn.
 fn ends_of(alloc: Global, machine: &Machine, last: u32) -> Result<Option<Vec<Hart>>, OutOfMemory>
     requires opened { machine.now.state.rounds ≡ 0 }
-    ensures { IfOk result (λ e. (m : Running) → m.state.harts ≡ machine.now.state.harts → AreEnds m last 0 e) }
+    ensures { IfOk result (λ e. (m : Running) → m.state.harts ≡ machine.now.state.harts →
+        AreEnds m last 0 e) }
 {
     if last > 0 {
         return Ok(None);

@@ -28,7 +28,8 @@ pub fn trace_run<S: Sink, V: Visitor, R: Threads + Wait + Sync>(
     visitor: &mut V,
     out: &mut S,
 ) -> Result<(), RunError>
-    requires known { (start : Untraced) → V.knows visitor.old visitor.old start settings.now.rounds 0 }
+    requires known { (start : Untraced) →
+        V.knows visitor.old visitor.old start settings.now.rounds 0 }
     // The sink takes the text of the trace of the run that the definitions name.
     ensures writes { WritesAnswer S.took S.failures
         (λ _. IsTraceOfRun settings.now files.now.image.now files.now.input.now)

@@ -30,7 +30,8 @@ pub fn order_run<S: Sink, V: Visitor, R: Threads + Wait + Sync>(
     visitor: &mut V,
     out: &mut S,
 ) -> Result<(), RunError>
-    requires known { (start : Untraced) → V.knows visitor.old visitor.old start settings.now.rounds 0 }
+    requires known { (start : Untraced) →
+        V.knows visitor.old visitor.old start settings.now.rounds 0 }
     // The sink takes the text of an order of the run that the definitions name.
     ensures writes { WritesAnswer S.took S.failures
         (λ _. IsOrderText settings.now image.now input.now)

@@ -21,7 +21,8 @@ pub trait Report {
 
 impl Report for Machine {
     fn report<S: Sink>(&self, alloc: Global, out: &mut S) -> Result<(), RunError>
-        ensures { WritesText (report_of self.now.state) (S.took out.old) (S.failures out.old) result (S.took out.new) (S.failures out.new) }
+        ensures { WritesText (report_of self.now.state) (S.took out.old) (S.failures out.old) result
+            (S.took out.new) (S.failures out.new) }
     {
         write_state(alloc, &state_of(self), self.trace(), out)
     }

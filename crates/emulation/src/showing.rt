@@ -48,7 +48,8 @@ pub fn show_run<S: Sink, V: Visitor, R: Threads + Wait + Sync>(
     visitor: &mut V,
     out: &mut S,
 ) -> Result<RunEnd, RunError>
-    requires known { (start : Untraced) → V.knows visitor.old visitor.old start settings.now.rounds 0 }
+    requires known { (start : Untraced) →
+        V.knows visitor.old visitor.old start settings.now.rounds 0 }
     // The sink takes what is shown of the run that the definitions name, and the answer is that of its harts.
     ensures writes { WritesAnswer S.took S.failures
         (IsShown shown settings.now files.now.image.now files.now.input.now)
@@ -79,11 +80,13 @@ fn show_rounds<S: Sink, V: Visitor, R: Threads + Wait + Sync>(
 ) -> Result<RunEnd, RunError>
     requires workers { AreWorkers settings.now.workers }
     requires opened { machine.old.rounds ≡ 0 }
-    requires known { (start : Untraced) → V.knows visitor.old visitor.old start settings.now.rounds 0 }
+    requires known { (start : Untraced) →
+        V.knows visitor.old visitor.old start settings.now.rounds 0 }
     ensures writes { (m : Running) → IsUntraced m machine.old → WritesAnswer S.took S.failures
         (λ end text. (text ≡ shown_text shown (after_rounds settings.now.rounds m).state) ×
         (end ≡ end_of (after_rounds settings.now.rounds m).state.harts))
-        (λ e. e ≡ refusals.OutOfMemory) refusals.OutOfMemory refusals.SinkFailed out.old out.new result }
+        (λ e. e ≡ refusals.OutOfMemory) refusals.OutOfMemory refusals.SinkFailed out.old out.new
+        result }
     ensures waits { (out.new ≡ out.old) ⊎
         HasSeenAll V.knows visitor.old visitor.new machine.old settings.now.rounds }
 {
@@ -106,7 +109,8 @@ pub fn report_run<S: Sink, V: Visitor, R: Threads + Wait + Sync>(
     visitor: &mut V,
     out: &mut S,
 ) -> Result<RunEnd, RunError>
-    requires known { (start : Untraced) → V.knows visitor.old visitor.old start settings.now.rounds 0 }
+    requires known { (start : Untraced) →
+        V.knows visitor.old visitor.old start settings.now.rounds 0 }
     // The sink takes the report of the run that the definitions name, and the answer is that of its harts.
     ensures writes { WritesAnswer S.took S.failures
         (IsReport settings.now files.now.image.now files.now.input.now)
@@ -136,11 +140,13 @@ fn report_rounds<S: Sink, V: Visitor, R: Threads + Wait + Sync>(
 ) -> Result<RunEnd, RunError>
     requires workers { AreWorkers settings.now.workers }
     requires opened { machine.old.state.rounds ≡ 0 }
-    requires known { (start : Untraced) → V.knows visitor.old visitor.old start settings.now.rounds 0 }
+    requires known { (start : Untraced) →
+        V.knows visitor.old visitor.old start settings.now.rounds 0 }
     ensures writes { WritesAnswer S.took S.failures
         (λ end text. (text ≡ report_of (after_rounds settings.now.rounds machine.old).state) ×
         (end ≡ end_of (after_rounds settings.now.rounds machine.old).state.harts))
-        (λ e. e ≡ refusals.OutOfMemory) refusals.OutOfMemory refusals.SinkFailed out.old out.new result }
+        (λ e. e ≡ refusals.OutOfMemory) refusals.OutOfMemory refusals.SinkFailed out.old out.new
+        result }
     ensures waits { (out.new ≡ out.old) ⊎ ((u : Untraced) × IsUntraced machine.old u ×
         HasSeenAll V.knows visitor.old visitor.new u settings.now.rounds) }
 {

@@ -33,7 +33,8 @@ pub fn trace_run<V: Visitor, R: Threads + Wait + Sync>(
     settings: &Settings<'_>,
     visitor: &mut V,
 ) -> Result<Trace, RunError>
-    requires known { (start : Untraced) → V.knows visitor.old visitor.old start settings.now.rounds 0 }
+    requires known { (start : Untraced) →
+        V.knows visitor.old visitor.old start settings.now.rounds 0 }
     // It has the events of the run that the definitions name.
     ensures events { IfOk result (λ t. (plan : Planned) × IsPlan settings.now plan ×
         (t.events ≡ trace_after settings.now image.now input.now plan)) }

@@ -51,7 +51,8 @@ impl Execution {
         requires few { length harts.items ≤ MOST_HARTS }
         requires reservations { length shared.reservations ≡ length harts.items }
         ensures memory { IfOk result (λ e. e.memory ≡ shared.pages.memory) }
-        ensures standing { IfOk result (λ e. e.standing ≡ at_start harts.items shared.console.console) }
+        ensures standing { IfOk result (λ e.
+            e.standing ≡ at_start harts.items shared.console.console) }
     {
         let own = vec![in alloc; None; harts.len()]?;
         let progress = Progress {
@@ -72,8 +73,10 @@ impl Execution {
     ///
     /// `OutOfMemory` alone, and the execution stands where it stood.
     pub fn take_step(&mut self, step: ScriptedStep) -> Result<Option<StepFault>, OutOfMemory>
-        ensures like { (image : Memory) → IsLike image self.old.memory → IsLike image self.new.memory }
-        ensures took { IfOk result (λ fault. IsTaken fault self.old.memory step self.old.standing self.new.standing) }
+        ensures like { (image : Memory) → IsLike image self.old.memory →
+            IsLike image self.new.memory }
+        ensures took { IfOk result (λ fault.
+            IsTaken fault self.old.memory step self.old.standing self.new.standing) }
         ensures refused { OnErr result (self.new.standing ≡ self.old.standing) }
     {
         take_step(&mut self.progress, step)

@@ -49,7 +49,8 @@ fn laid_by(h: &Hart, word: Atomic, number: u64) -> Option<Store> {
 
 /// What an instruction read, where that isn't the number that it was given.
 pub(crate) fn other_read(answer: Stepped, given: Option<u64>) -> Option<u64>
-    ensures { MatchOption result ((v : ℕ) → IsRead answer v → given ≡ Some v) (λ v. IsRead answer v × (given ≢ Some v)) }
+    ensures { MatchOption result ((v : ℕ) → IsRead answer v →
+        given ≡ Some v) (λ v. IsRead answer v × (given ≢ Some v)) }
 {
     let Stepped::Done(Some(access)) = answer else {
         return None;

@@ -38,10 +38,12 @@ pub(crate) fn do_step(
 ) -> Result<Stepped, OutOfMemory>
     requires running { h.old.stop ≡ None }
     requires hart { step.hart < length shared.old.reservations }
-    ensures like { (image : Memory) → IsLike image shared.old.pages.memory → IsLike image shared.new.pages.memory }
+    ensures like { (image : Memory) → IsLike image shared.old.pages.memory →
+        IsLike image shared.new.pages.memory }
     ensures reservations { length shared.new.reservations ≡ length shared.old.reservations }
     ensures step { IfOk result (λ answer. (image : Memory) → IsLike image shared.old.pages.memory →
-        IsStep image step.round own shared.old.console.console shared.new.console.console h.old h.new answer) }
+        IsStep image step.round own shared.old.console.console shared.new.console.console h.old
+        h.new answer) }
     ensures refused { OnErr result (shared.new.console.console ≡ shared.old.console.console) }
 {
     make_room(shared, laid)?;
@@ -53,7 +55,8 @@ pub(crate) fn do_step(
 
 /// Lays a number on memory, and makes room for what an instruction may store and put out.
 fn make_room(shared: &mut SharedState, number: Option<Store>) -> Result<(), OutOfMemory>
-    ensures like { (image : Memory) → IsLike image shared.old.pages.memory → IsLike image shared.new.pages.memory }
+    ensures like { (image : Memory) → IsLike image shared.old.pages.memory →
+        IsLike image shared.new.pages.memory }
     ensures reservations { shared.new.reservations ≡ shared.old.reservations }
     ensures console { shared.new.console.console ≡ shared.old.console.console }
     ensures pages { OnOk result (HasSpares 1 shared.new.pages) }
@@ -67,7 +70,8 @@ fn make_room(shared: &mut SharedState, number: Option<Store>) -> Result<(), OutO
 
 /// Lays a number on memory: where it may not be stored as a whole, those of its bytes that may be.
 fn lay(pages: &mut Pages, number: Option<Store>) -> Result<(), OutOfMemory>
-    ensures like { (image : Memory) → IsLike image pages.old.memory → IsLike image pages.new.memory }
+    ensures like { (image : Memory) → IsLike image pages.old.memory →
+        IsLike image pages.new.memory }
     ensures shows { (first : ℕ) (words : List Instr) →
         Shows pages.old.memory first words → Shows pages.new.memory first words }
 {
@@ -84,7 +88,8 @@ fn lay(pages: &mut Pages, number: Option<Store>) -> Result<(), OutOfMemory>
 
 /// Lays each byte of a number that may be stored: not those that are code.
 fn lay_bytes(pages: &mut Pages, number: Store) -> Result<(), OutOfMemory>
-    ensures like { (image : Memory) → IsLike image pages.old.memory → IsLike image pages.new.memory }
+    ensures like { (image : Memory) → IsLike image pages.old.memory →
+        IsLike image pages.new.memory }
     ensures shows { (first : ℕ) (words : List Instr) →
         Shows pages.old.memory first words → Shows pages.new.memory first words }
 {
@@ -101,7 +106,8 @@ fn lay_bytes(pages: &mut Pages, number: Store) -> Result<(), OutOfMemory>
 
 /// Lays a number on memory, and answers whether it may be stored.
 fn is_laid(pages: &mut Pages, number: Store) -> Result<bool, OutOfMemory>
-    ensures like { (image : Memory) → IsLike image pages.old.memory → IsLike image pages.new.memory }
+    ensures like { (image : Memory) → IsLike image pages.old.memory →
+        IsLike image pages.new.memory }
     ensures shows { (first : ℕ) (words : List Instr) →
         Shows pages.old.memory first words → Shows pages.new.memory first words }
 {

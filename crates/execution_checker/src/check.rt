@@ -53,8 +53,10 @@ pub fn judge(
     order: &Order,
 ) -> Result<Verdict, OutOfMemory>
     requires formed { All HasForm execution.now.standing.events }
-    requires along { length execution.now.standing.instructions ≡ length execution.now.standing.events }
-    ensures { IfOk result (λ v. IsJudged v (opening_at opening.now.opening) execution.now.standing order.now.0.items) }
+    requires along { length execution.now.standing.instructions
+        ≡ length execution.now.standing.events }
+    ensures { IfOk result (λ v.
+        IsJudged v (opening_at opening.now.opening) execution.now.standing order.now.0.items) }
 {
     let instructions = execution.instructions();
     let events = execution.events();
@@ -78,7 +80,9 @@ pub fn follow(
 ) -> Result<Option<(usize, StepFault)>, OutOfMemory>
     ensures { IfOk result (λ broken. MatchOption broken
         (Follows execution.old.memory script.now execution.old.standing execution.new.standing)
-        (λ b. BreaksAt execution.old.memory script.now b.0 b.1 execution.old.standing execution.new.standing)) }
+        (λ b.
+        BreaksAt execution.old.memory script.now b.0 b.1 execution.old.standing
+        execution.new.standing)) }
 {
     for index in 0..script.len() {
         let step = script[index];

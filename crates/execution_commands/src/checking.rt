@@ -26,14 +26,18 @@ pub fn check_command<F: Files, O: Output>(
     out: &mut O,
 ) -> Result<ExitStatus, ExecutionFailure>
     // All that was printed is what is found of the execution in the file of the line, and the status is 0 where RVWMO allows it, and else 3.
-    ensures checks { IfOk result (λ status. (a : CheckedFile (F.holds files.now) asked.now.file.now) × (text : List ℕ) ×
-        IsVerdictText (checked_in a) text × (O.took out.new ≡ O.took out.old ++ text) × O.is_out out.new ×
+    ensures checks { IfOk result (λ status.
+        (a : CheckedFile (F.holds files.now) asked.now.file.now) × (text : List ℕ) ×
+        IsVerdictText (checked_in a) text × (O.took out.new ≡ O.took out.old ++ text) ×
+        O.is_out out.new ×
         (status ≡ verdict_status (checked_in a).finding)) }
     // Else nothing was printed, or a beginning of that.
     ensures begun { OnErr result ((O.took out.new ≡ O.took out.old) ⊎
-        ((a : CheckedFile (F.holds files.now) asked.now.file.now) × (text : List ℕ) × IsVerdictText (checked_in a) text ×
+        ((a : CheckedFile (F.holds files.now) asked.now.file.now) × (text : List ℕ) ×
+        IsVerdictText (checked_in a) text ×
         BeganText (O.took out.old) (O.took out.new) text)) }
-    ensures errors { IfErr result (EndsCheck (F.holds files.now) (F.lacks files.now) asked.now.file.now
+    ensures errors { IfErr result (EndsCheck (F.holds files.now) (F.lacks files.now)
+        asked.now.file.now
         (HasFailed O.failures O.is_stuck out.old out.new)) }
 {
     let checked = checked_file(files, alloc, asked.file)?;
@@ -49,9 +53,11 @@ fn print_verdict<O: Output>(
     out: &mut O,
 ) -> Result<ExitStatus, RunError>
     ensures puts { IfOk result (λ status. (text : List ℕ) × IsVerdictText checked.now text ×
-        (O.took out.new ≡ O.took out.old ++ text) × O.is_out out.new × (status ≡ verdict_status checked.now.finding)) }
+        (O.took out.new ≡ O.took out.old ++ text) × O.is_out out.new ×
+        (status ≡ verdict_status checked.now.finding)) }
     ensures begun { OnErr result ((O.took out.new ≡ O.took out.old) ⊎
-        ((text : List ℕ) × IsVerdictText checked.now text × BeganText (O.took out.old) (O.took out.new) text)) }
+        ((text : List ℕ) × IsVerdictText checked.now text ×
+        BeganText (O.took out.old) (O.took out.new) text)) }
     ensures errors { IfErr result (IsCutOff (HasFailed O.failures O.is_stuck out.old out.new)) }
 {
     let status = put_verdict(alloc, checked, out)?;
@@ -61,8 +67,10 @@ fn print_verdict<O: Output>(
 
 /// Checks the execution of the file of a path.
 fn checked_file<F: Files>(files: &F, alloc: Global, path: &str) -> Result<Checked, ExecutionFailure>
-    ensures checks { IfOk result (λ c. (a : CheckedFile (F.holds files.now) path.now) × (c ≡ checked_in a)) }
-    ensures errors { IfErr result (IsUncheckedFile (F.holds files.now) (F.lacks files.now) path.now) }
+    ensures checks { IfOk result (λ c. (a : CheckedFile (F.holds files.now) path.now) ×
+        (c ≡ checked_in a)) }
+    ensures errors { IfErr result (IsUncheckedFile (F.holds files.now) (F.lacks files.now)
+        path.now) }
 {
     let text = read_file(files, alloc, path)?;
     let file = read_execution_text(alloc, &text)?;

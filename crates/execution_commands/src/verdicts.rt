@@ -33,7 +33,8 @@ pub fn put_verdict<S: Sink>(
     ensures puts { IfOk result (λ status. (text : List ℕ) × IsVerdictText checked.now text ×
         (S.took out.new ≡ S.took out.old ++ text) × (status ≡ verdict_status checked.now.finding)) }
     ensures begun { OnErr result ((S.took out.new ≡ S.took out.old) ⊎
-        ((text : List ℕ) × IsVerdictText checked.now text × BeganText (S.took out.old) (S.took out.new) text)) }
+        ((text : List ℕ) × IsVerdictText checked.now text ×
+        BeganText (S.took out.old) (S.took out.new) text)) }
     ensures memory { result ≡ Err refusals.OutOfMemory → out.new ≡ out.old }
     ensures sink { result ≡ Err refusals.SinkFailed → S.failures out.old < S.failures out.new }
     ensures errors { IfErr result (λ e. (e ≡ refusals.OutOfMemory) ⊎ (e ≡ refusals.SinkFailed)) }
@@ -85,7 +86,8 @@ fn allowed_text(alloc: Global, checked: &Checked) -> Result<Line, OutOfMemory>
 
 /// The lines of one that is refused.
 fn refused_text(alloc: Global, checked: &Checked) -> Result<Line, OutOfMemory>
-    ensures { IfOk result (λ text. (reason : List ℕ) × (text ≡ codes "refused\n" ++ reason ++ codes "\n")) }
+    ensures { IfOk result (λ text. (reason : List ℕ) ×
+        (text ≡ codes "refused\n" ++ reason ++ codes "\n")) }
 {
     let reason = reason_of(alloc, checked)?;
     let mut text = Line::new(alloc);

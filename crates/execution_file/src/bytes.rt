@@ -42,7 +42,8 @@ fn byte_at(bytes: &[u8]) -> Result<(u8, &[u8]), ReadError>
 /// Byte `index` of so many, and what follows it and the end of its line.
 fn byte_of_line(bytes: &[u8], count: u64, index: u64) -> Result<(u8, &[u8]), ReadError>
     requires { index < count }
-    ensures { Gives (λ x. (x.0, x.1.now)) result ((broken (is_line_end count index) byte).taken bytes.now) }
+    ensures { Gives (λ x. (x.0, x.1.now)) result
+        ((broken (is_line_end count index) byte).taken bytes.now) }
 {
     let (byte, rest) = byte_at(bytes)?;
     if index + 1 == count || (index + 1) % 32 == 0 {

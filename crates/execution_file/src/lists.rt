@@ -54,7 +54,8 @@ fn numbers_at(alloc: Global, bytes: &[u8]) -> Result<(Vec<u64>, &[u8]), ReadErro
 /// The turns up to the end of the line, and what follows it.
 #[tactic(auto, using(crate::proofs::WordLoops::list_starts))]
 pub(crate) fn turns_at(alloc: Global, bytes: &[u8]) -> Result<(Vec<Turn>, &[u8]), ReadError>
-    ensures { Gives (λ x. (map turn_view x.0.items, x.1.now)) result ((listed hart_turn).taken bytes.now) }
+    ensures { Gives (λ x. (map turn_view x.0.items, x.1.now)) result
+        ((listed hart_turn).taken bytes.now) }
 {
     let mut turns = Vec::new(alloc);
     let mut rest = bytes;
@@ -78,7 +79,8 @@ pub(crate) fn turns_at(alloc: Global, bytes: &[u8]) -> Result<(Vec<Turn>, &[u8])
 
 /// What follows the word `hart` and the number of a hart.
 fn hart_number_at(bytes: &[u8], index: u64) -> Result<&[u8], ReadError>
-    ensures { Gives (λ x. x.now) result (taken_word Cause.Cut Cause.Malformed (codes "hart " ++ decimal index) bytes.now) }
+    ensures { Gives (λ x. x.now) result (taken_word Cause.Cut Cause.Malformed
+        (codes "hart " ++ decimal index) bytes.now) }
 {
     let mut room = [0; 20];
     let start = write_digits(index, &mut room, 20);
@@ -149,7 +151,8 @@ fn so_many_harts_at(
     bytes: &[u8],
     count: u64,
 ) -> Result<(Vec<HartDeeds>, &[u8]), ReadError>
-    ensures { Gives (λ x. (map hart_view x.0.items, x.1.now)) result ((each count hart_lines).taken bytes.now) }
+    ensures { Gives (λ x. (map hart_view x.0.items, x.1.now)) result
+        ((each count hart_lines).taken bytes.now) }
 {
     let mut harts = Vec::new(alloc);
     let mut rest = bytes;

@@ -80,7 +80,8 @@ pub(crate) fn number_at(bytes: &[u8], high: u64) -> Result<(u64, &[u8]), ReadErr
 
 /// The number after a byte that says that it is there, and what follows it.
 pub(crate) fn number_after(bytes: &[u8], sign: u8) -> Result<(Option<u64>, &[u8]), ReadError>
-    ensures { Gives (λ x. (x.0, x.1.now)) result ((after sign (number (2 ^ 64 - 1))).taken bytes.now) }
+    ensures { Gives (λ x. (x.0, x.1.now)) result
+        ((after sign (number (2 ^ 64 - 1))).taken bytes.now) }
 {
     match bytes {
         [first, ..] if *first == sign => {

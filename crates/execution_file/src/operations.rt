@@ -49,8 +49,10 @@ impl Operations {
     pub(crate) fn first_left(&mut self) -> usize
         ensures indexes { self.new.indexes.items ≡ self.old.indexes.items }
         ensures named { self.new.named.items ≡ self.old.named.items }
-        ensures passed { (k : ℕ) → self.old.next ≤ k → k < result → slice_index_or self.old.named.items k false ≡ true }
-        ensures left { result < length self.old.named.items → slice_index_or self.old.named.items result false ≡ false }
+        ensures passed { (k : ℕ) → self.old.next ≤ k → k < result →
+            slice_index_or self.old.named.items k false ≡ true }
+        ensures left { result < length self.old.named.items →
+            slice_index_or self.old.named.items result false ≡ false }
         ensures next { (self.new.next ≡ self.old.next) ⊎ (self.new.next ≡ result) }
     {
         for number in self.next..self.named.len() {
@@ -67,7 +69,8 @@ impl Operations {
         ensures indexes { self.new.indexes.items ≡ self.old.indexes.items }
         ensures next { self.new.next ≡ self.old.next }
         ensures named { MatchOption result (length self.old.indexes.items ≤ number) (λ index.
-            (number < length self.old.indexes.items) × (index ≡ slice_index self.old.indexes.items number) ×
+            (number < length self.old.indexes.items) ×
+            (index ≡ slice_index self.old.indexes.items number) ×
             (self.new.named.items ≡ slice_set self.old.named.items number true)) }
     {
         if number >= self.indexes.len() as u64 {

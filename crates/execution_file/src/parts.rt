@@ -66,7 +66,8 @@ fn unread_part(alloc: Global, hart: &Hart) -> HartDeeds
 
 /// Adds the number that an event shows to those of its hart.
 fn add_number(parts: &mut Vec<HartDeeds>, event: &Event) -> Result<(), OutOfMemory>
-    ensures { OnOk result (map hart_view parts.new.items ≡ with_event 0 (map hart_view parts.old.items) event.now) }
+    ensures { OnOk result (map hart_view parts.new.items
+        ≡ with_event 0 (map hart_view parts.old.items) event.now) }
 {
     if let Some(number) = number_shown(&event.access) {
         if let Some(part) = parts.get_mut(usize::from(event.hart)) {

@@ -21,7 +21,8 @@ pub fn write_execution<S: Sink>(
     file: &ExecutionFile,
     out: &mut S,
 ) -> Result<(), RunError>
-    ensures writes { WritesText (execution.spelled (as_recorded file.now)) (S.took out.old) (S.failures out.old) result
+    ensures writes { WritesText (execution.spelled (as_recorded file.now)) (S.took out.old)
+        (S.failures out.old) result
         (S.took out.new) (S.failures out.new) }
     ensures memory { result ≡ Err refusals.OutOfMemory → S.took out.new ≡ S.took out.old }
 {
@@ -127,7 +128,8 @@ fn put_byte(text: &mut Vec<u8>, value: u8) -> Result<(), AllocError>
 fn put_byte_of_line(text: &mut Vec<u8>, bytes: &[u8], index: usize) -> Result<(), AllocError>
     requires { index < length bytes.now }
     ensures { OnOk result (text.new.items ≡ text.old.items ++
-        (broken (is_line_end (length bytes.now) index) byte).spelled (slice_index bytes.now index)) }
+        (broken (is_line_end (length bytes.now) index) byte).spelled
+        (slice_index bytes.now index)) }
 {
     put_byte(text, bytes[index])?;
     if index + 1 == bytes.len() || (index + 1) % 32 == 0 {
@@ -172,7 +174,8 @@ fn put_after(text: &mut Vec<u8>, sign: u8, number: Option<u64>) -> Result<(), Al
 /// A hart's turn.
 #[tactic(auto, using(crate::proofs::Written::assoc))]
 fn put_turn(text: &mut Vec<u8>, turn: &Turn) -> Result<(), AllocError>
-    ensures { OnOk result (text.new.items ≡ text.old.items ++ hart_turn.spelled (turn_view turn.now)) }
+    ensures { OnOk result (text.new.items ≡ text.old.items
+        ++ hart_turn.spelled (turn_view turn.now)) }
 {
     put_number(text, u64::from(turn.hart))?;
     put_after(text, b':', turn.number)
@@ -212,7 +215,8 @@ fn put_hart_line(
     value: Option<u64>,
 ) -> Result<(), AllocError>
     ensures { OnOk result (text.new.items ≡ text.old.items ++ (codes "hart " ++ decimal index ++
-        (codes " steps " ++ decimal steps ++ (codes " stop " ++ decimal code ++ spelled_after 32 double value)))) }
+        (codes " steps " ++ decimal steps ++ (codes " stop " ++ decimal code
+        ++ spelled_after 32 double value)))) }
 {
     put(text, b"hart ")?;
     put_number(text, index)?;

@@ -30,10 +30,13 @@ pub fn check_moments(
 ) -> Result<(Verdict, Option<Course>), OutOfMemory>
     requires no_instructions { execution.old.standing.instructions ≡ [] }
     requires no_events { execution.old.standing.events ≡ [] }
-    ensures verdict { IfOk result (λ r. IsVerdict r.0 execution.old.memory (opening_at opening.now.opening)
+    ensures verdict { IfOk result (λ r.
+        IsVerdict r.0 execution.old.memory (opening_at opening.now.opening)
         script.now order.now.0.items execution.old.standing execution.new.standing) }
     ensures course { IfOk result (λ r. MatchOption r.1 (r.0 ≢ verdicts.Allowed)
-        (λ c. (r.0 ≡ verdicts.Allowed) × IsCourse execution.old.memory execution.old.standing execution.new.standing order.now.0.items c)) }
+        (λ c. (r.0 ≡ verdicts.Allowed) ×
+        IsCourse execution.old.memory execution.old.standing execution.new.standing
+        order.now.0.items c)) }
 {
     execution.is_small();
     let (broken, moments) = follow(alloc, execution, script)?;
@@ -56,7 +59,8 @@ fn course_of(
     order: &Order,
 ) -> Result<Course, OutOfMemory>
     requires { ListsOperations execution.now.standing.events order.now.0.items }
-    ensures { IfOk result (λ c. IsCourseOf before.items execution.now.standing order.now.0.items c) }
+    ensures { IfOk result (λ c.
+        IsCourseOf before.items execution.now.standing order.now.0.items c) }
 {
     let Some(times) = times_of(alloc, execution.events(), order)? else {
         unreachable!()

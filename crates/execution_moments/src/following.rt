@@ -26,10 +26,14 @@ fn take_noted(
     moments: &mut Vec<HartMoment>,
     step: ScriptedStep,
 ) -> Result<Option<StepFault>, OutOfMemory>
-    ensures like { (image : Memory) → IsLike image execution.old.memory → IsLike image execution.new.memory }
-    ensures took { IfOk result (λ fault. IsTaken fault execution.old.memory step execution.old.standing execution.new.standing) }
-    ensures moments { IfOk result (λ _. (image : Memory) (p : Standing) → IsLike image execution.old.memory →
-        Executes image p execution.old.standing → AreBefore image p execution.old.standing moments.old.items →
+    ensures like { (image : Memory) → IsLike image execution.old.memory →
+        IsLike image execution.new.memory }
+    ensures took { IfOk result (λ fault.
+        IsTaken fault execution.old.memory step execution.old.standing execution.new.standing) }
+    ensures moments { IfOk result (λ _. (image : Memory) (p : Standing) →
+        IsLike image execution.old.memory →
+        Executes image p execution.old.standing →
+        AreBefore image p execution.old.standing moments.old.items →
         AreBefore image p execution.new.standing moments.new.items) }
 {
     let Some(hart) = hart_of(execution, step.hart) else {
@@ -67,8 +71,11 @@ pub(crate) fn follow(
     requires { execution.old.standing.events ≡ [] }
     ensures followed { IfOk result (λ r. MatchOption r.0
         (Follows execution.old.memory script.now execution.old.standing execution.new.standing)
-        (λ b. BreaksAt execution.old.memory script.now b.0 b.1 execution.old.standing execution.new.standing)) }
-    ensures moments { IfOk result (λ r. AreBefore execution.old.memory execution.old.standing execution.new.standing r.1.items) }
+        (λ b.
+        BreaksAt execution.old.memory script.now b.0 b.1 execution.old.standing
+        execution.new.standing)) }
+    ensures moments { IfOk result (λ r.
+        AreBefore execution.old.memory execution.old.standing execution.new.standing r.1.items) }
 {
     let mut moments = Vec::new(alloc);
     for index in 0..script.len() {

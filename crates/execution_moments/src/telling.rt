@@ -9,7 +9,8 @@ use moments::Asked;
 impl Course {
     /// Whether something is told at a time.
     fn is_told(&self, asked: &Asked, time: usize) -> bool
-        ensures { result ≡ is_told self.now asked.now.each asked.now.faults asked.now.stops.items time }
+        ensures { result ≡ is_told self.now asked.now.each asked.now.faults asked.now.stops.items
+            time }
     {
         match self.moment_at(time) {
             Some(moment) => asked.tells(u32::from(moment.number), &moment.hart),
@@ -34,7 +35,8 @@ impl Course {
 
     /// The first time behind this one at which something is told.
     pub fn next_told_behind(&self, asked: &Asked, time: usize) -> Option<usize>
-        ensures { result ≡ next_by self.now asked.now.each asked.now.faults asked.now.stops.items (time + 1) }
+        ensures { result ≡ next_by self.now asked.now.each asked.now.faults asked.now.stops.items
+            (time + 1) }
     {
         if time >= self.sequence.len() {
             return None;

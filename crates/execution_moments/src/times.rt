@@ -40,7 +40,8 @@ fn times_by(
     end: usize,
 ) -> Result<Vec<usize>, OutOfMemory>
     requires { length positions.now ≡ length events.now }
-    ensures { IfOk result (λ v. AreTimesBy events.now (λ i. slice_index positions.now i) end v.items) }
+    ensures { IfOk result (λ v.
+        AreTimesBy events.now (λ i. slice_index positions.now i) end v.items) }
 {
     let mut times = latest_loads(alloc, events, positions)?;
     delay(alloc, events, positions, end, &mut times)?;
@@ -78,7 +79,9 @@ fn event_of(events: &[Event], index: usize) -> Event
 fn raise(latest: &mut Vec<usize>, event: &Event, position: usize) -> usize
     requires { length latest.old.items ≡ 256 }
     ensures size { length latest.new.items ≡ 256 }
-    ensures each { (h : ℕ) → h < 256 → slice_index latest.new.items h ≡ later_of h event.now (slice_index latest.old.items h) position }
+    ensures each { (h : ℕ) → h < 256 →
+        slice_index latest.new.items h ≡ later_of h event.now (slice_index latest.old.items h)
+        position }
     ensures here { result ≡ slice_index latest.new.items event.now.hart }
     ensures few { event.now.hart < 256 }
 {
@@ -99,7 +102,8 @@ fn delay(
 ) -> Result<(), OutOfMemory>
     requires positions { length positions.now ≡ length events.now }
     requires latest { AreLatest events.now (λ i. slice_index positions.now i) times.old.items }
-    ensures { OnOk result (AreTimesBy events.now (λ i. slice_index positions.now i) end times.new.items) }
+    ensures { OnOk result (AreTimesBy events.now (λ i. slice_index positions.now i) end
+        times.new.items) }
 {
     let mut soonest = vec![in alloc; end; 256]?;
     let mut index = events.len();
@@ -116,7 +120,9 @@ fn delay(
 fn lower(soonest: &mut Vec<usize>, event: &Event, position: usize) -> usize
     requires { length soonest.old.items ≡ 256 }
     ensures size { length soonest.new.items ≡ 256 }
-    ensures each { (h : ℕ) → h < 256 → slice_index soonest.new.items h ≡ sooner_of h event.now (slice_index soonest.old.items h) position }
+    ensures each { (h : ℕ) → h < 256 →
+        slice_index soonest.new.items h ≡ sooner_of h event.now (slice_index soonest.old.items h)
+        position }
     ensures here { result ≡ slice_index soonest.new.items event.now.hart }
     ensures few { event.now.hart < 256 }
 {

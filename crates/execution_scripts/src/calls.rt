@@ -24,7 +24,8 @@ pub(crate) enum Taken {
 
 /// The number of the call that a hart's next instruction would be.
 pub(crate) fn call_number(execution: &Execution, hart: u8) -> u64
-    ensures { (g : Hart) → slice_get execution.now.standing.harts hart ≡ Some g → result ≡ reg g.x 17 }
+    ensures { (g : Hart) → slice_get execution.now.standing.harts hart ≡ Some g →
+        result ≡ reg g.x 17 }
 {
     match execution.harts().get(usize::from(hart)) {
         Some(hart) => hart.x[17],

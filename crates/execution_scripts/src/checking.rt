@@ -70,7 +70,8 @@ pub fn check_file(
     file: &ExecutionFile,
     asked: Option<HartStep>,
 ) -> Result<Checked, RunError>
-    ensures { IfOk result (λ c. IsFound (guest_in (as_recorded file.now)) (as_recorded file.now) asked c.finding c) }
+    ensures { IfOk result (λ c.
+        IsFound (guest_in (as_recorded file.now)) (as_recorded file.now) asked c.finding c) }
 {
     let harts = file.harts.len();
     if harts < 1 || harts > MOST_HARTS as usize {
@@ -106,7 +107,8 @@ fn check_over(
     asked: Option<HartStep>,
 ) -> Result<Checked, RunError>
     requires { length file.now.harts.items ≤ MOST_HARTS }
-    ensures { IfOk result (λ c. IsFound (opening_guest image file.now.input.items (length file.now.harts.items))
+    ensures { IfOk result (λ c.
+        IsFound (opening_guest image file.now.input.items (length file.now.harts.items))
         (as_recorded file.now) asked c.finding c) }
 {
     let mut follower = Follower::open(alloc, &image, &file.input, &file.harts, asked)?;
@@ -124,7 +126,8 @@ fn check_over(
 
 /// What is found of a file that couldn't be followed to its end.
 fn halted(alloc: Global, way: Way, opening: Trace, halt: Halt) -> Result<Checked, RunError>
-    ensures { IfOk result (λ k. (x : FaultFound) × (halt ≡ halts.Fault x) × (k.finding ≡ findings.Fault x)) }
+    ensures { IfOk result (λ k. (x : FaultFound) × (halt ≡ halts.Fault x) ×
+        (k.finding ≡ findings.Fault x)) }
 {
     match halt {
         Halt::Fault(fault) => Ok(refused(alloc, way, opening, fault)),
@@ -161,7 +164,8 @@ fn refused(alloc: Global, way: Way, opening: Trace, fault: Fault) -> Checked
 /// What is found of an execution whose harts do what the file says.
 fn judge(alloc: Global, file: &ExecutionFile, way: Way, opening: Trace) -> Result<Checked, RunError>
     requires formed { All HasForm way.execution.standing.events }
-    requires along { length way.execution.standing.instructions ≡ length way.execution.standing.events }
+    requires along { length way.execution.standing.instructions
+        ≡ length way.execution.standing.events }
     ensures hands_on { IfOk result (HandsOn way opening.opening) }
     ensures verdict { IfOk result (λ k. (v : Verdict) → k.finding ≡ findings.Judged v →
         Judges v (opening_at opening.opening) way.execution.standing k.order.0.items) }
@@ -196,7 +200,8 @@ fn judge_named(
     opening: &Trace,
 ) -> Result<(Finding, Order), OutOfMemory>
     requires formed { All HasForm execution.now.standing.events }
-    requires along { length execution.now.standing.instructions ≡ length execution.now.standing.events }
+    requires along { length execution.now.standing.instructions
+        ≡ length execution.now.standing.events }
     ensures verdict { IfOk result (λ f. (v : Verdict) → f.0 ≡ findings.Judged v →
         Judges v (opening_at opening.now.opening) execution.now.standing f.1.0.items) }
     ensures names { IfOk result (λ f. (v : Verdict) → f.0 ≡ findings.Judged v →

@@ -11,7 +11,8 @@ use hart_step::Stop;
 
 /// Why a hart whose next step is this, after which it has stopped so, doesn't stop there as is said of it.
 pub(crate) fn end_misfit(taken: Taken, stop: Option<Stop>, part: &HartDeeds) -> Option<Misfit>
-    ensures { MatchOption result (EndsAs taken stop part.now.code part.now.value) (EndsOtherwise taken stop part.now.code part.now.value) }
+    ensures { MatchOption result (EndsAs taken stop part.now.code part.now.value)
+        (EndsOtherwise taken stop part.now.code part.now.value) }
 {
     let Taken::Stopped = taken else {
         return Some(Misfit::RunsOn);

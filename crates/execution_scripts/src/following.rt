@@ -45,9 +45,13 @@ impl<'a> Follower<'a> {
         asked: Option<HartStep>,
     ) -> Result<Follower<'a>, OutOfMemory>
         requires { length parts.now ≤ MOST_HARTS }
-        ensures on { IfOk result (λ f. let g = opening_guest image.now input.now (length parts.now) in
-            IsOn (record { image = g.shared.memory; start = start_of g; lines = map hart_view parts.now; asked = asked }) 0 f) }
-        ensures standing { IfOk result (λ f. f.way.execution.standing ≡ start_of (opening_guest image.now input.now (length parts.now))) }
+        ensures on { IfOk result (λ f.
+            let g = opening_guest image.now input.now (length parts.now) in
+            IsOn (record { image = g.shared.memory; start = start_of g;
+            lines = map hart_view parts.now; asked = asked }) 0 f) }
+        ensures standing { IfOk result (λ f.
+            f.way.execution.standing ≡ start_of
+            (opening_guest image.now input.now (length parts.now))) }
     {
         let used = vec![in alloc; 0usize; parts.len()]?;
         let way = Way::open(alloc, image, input, parts.len() as u32, asked)?;
@@ -61,7 +65,8 @@ impl<'a> Follower<'a> {
 
     /// The number of the next read of a hart.
     fn said(&self, hart: u8) -> Option<u64>
-        ensures { result ≡ slice_get (line_of (map hart_view self.now.parts.now) hart).reads (slice_index self.now.used.items hart) }
+        ensures { result ≡ slice_get (line_of (map hart_view self.now.parts.now) hart).reads
+            (slice_index self.now.used.items hart) }
     {
         let used = match self.used.get(usize::from(hart)) {
             Some(used) => *used,
@@ -84,7 +89,8 @@ impl<'a> Follower<'a> {
     /// How many instructions a hart has still to do.
     fn left(&self, hart: u8) -> u64
         ensures fits { (line_of (map hart_view self.now.parts.now) hart).steps < 2 ^ 64 }
-        ensures left { result ≡ (line_of (map hart_view self.now.parts.now) hart).steps - done_by self.now.way.execution.standing hart }
+        ensures left { result ≡ (line_of (map hart_view self.now.parts.now) hart).steps
+            - done_by self.now.way.execution.standing hart }
     {
         self.steps(hart).saturating_sub(self.done(hart))
     }
@@ -108,7 +114,9 @@ impl<'a> Follower<'a> {
     fn next_step(&self, hart: u8) -> ScriptedStep
         ensures hart { result.hart ≡ hart }
         ensures round { result.round ≡ self.now.round }
-        ensures number { result.number ≡ slice_get (line_of (map hart_view self.now.parts.now) hart).reads (slice_index self.now.used.items hart) }
+        ensures number { result.number ≡ slice_get
+            (line_of (map hart_view self.now.parts.now) hart).reads
+            (slice_index self.now.used.items hart) }
     {
         let number = self.said(hart);
         ScriptedStep {
@@ -121,10 +129,14 @@ impl<'a> Follower<'a> {
 
     /// The next step of a hart.
     pub(crate) fn step(&mut self, hart: u8) -> Result<Taken, Halt>
-        ensures took { IfOk result (λ taken. (c : Course) (n : ℕ) → IsOn c n self.old → hart < length c.lines → IsOn c n self.new ×
-            Took taken c.image (line_of c.lines hart) n hart self.old.way.execution.standing self.new.way.execution.standing) }
-        ensures misfit { IfErr result (λ halt. OnFault halt (λ f. (c : Course) (n : ℕ) → IsOn c n self.old → hart < length c.lines →
-            IsFaultAt IsStepMisfit c.image (line_of c.lines hart) n hart self.old.way.execution.standing f)) }
+        ensures took { IfOk result (λ taken. (c : Course) (n : ℕ) → IsOn c n self.old →
+            hart < length c.lines → IsOn c n self.new ×
+            Took taken c.image (line_of c.lines hart) n hart self.old.way.execution.standing
+            self.new.way.execution.standing) }
+        ensures misfit { IfErr result (λ halt.
+            OnFault halt (λ f. (c : Course) (n : ℕ) → IsOn c n self.old → hart < length c.lines →
+            IsFaultAt IsStepMisfit c.image (line_of c.lines hart) n hart
+            self.old.way.execution.standing f)) }
     {
         let done = self.done(hart);
         let call = call_number(&self.way.execution, hart);
@@ -161,7 +173,8 @@ impl<'a> Follower<'a> {
         ensures round { self.new.round ≡ self.old.round }
         ensures none { read ≡ None → self.new.used.items ≡ self.old.used.items }
         ensures one { (v : ℕ) → read ≡ Some v → self.new.used.items ≡
-            slice_set self.old.used.items hart ((slice_index self.old.used.items hart + 1) % 2 ^ 64) }
+            slice_set self.old.used.items hart
+            ((slice_index self.old.used.items hart + 1) % 2 ^ 64) }
     {
         if read.is_none() {
             return;
@@ -173,10 +186,14 @@ impl<'a> Follower<'a> {
 
     /// The next instruction of a hart: whether it is a call.
     fn go(&mut self, hart: u8) -> Result<bool, Halt>
-        ensures went { IfOk result (λ is_call. (c : Course) (n : ℕ) → IsOn c n self.old → hart < length c.lines → IsOn c n self.new ×
-            ((s : Reads c.image (line_of c.lines hart) n hart self.old.way.execution.standing self.new.way.execution.standing) × (calls s ≡ is_call))) }
-        ensures misfit { IfErr result (λ halt. OnFault halt (λ f. (c : Course) (n : ℕ) → IsOn c n self.old → hart < length c.lines →
-            IsFaultAt IsGoMisfit c.image (line_of c.lines hart) n hart self.old.way.execution.standing f)) }
+        ensures went { IfOk result (λ is_call. (c : Course) (n : ℕ) → IsOn c n self.old →
+            hart < length c.lines → IsOn c n self.new ×
+            ((s : Reads c.image (line_of c.lines hart) n hart self.old.way.execution.standing
+            self.new.way.execution.standing) × (calls s ≡ is_call))) }
+        ensures misfit { IfErr result (λ halt.
+            OnFault halt (λ f. (c : Course) (n : ℕ) → IsOn c n self.old → hart < length c.lines →
+            IsFaultAt IsGoMisfit c.image (line_of c.lines hart) n hart
+            self.old.way.execution.standing f)) }
     {
         let done = self.done(hart);
         match self.step(hart)? {
@@ -191,7 +208,8 @@ impl<'a> Follower<'a> {
         ensures way { OnOk result (self.new.way ≡ self.old.way) }
         ensures round { OnOk result ((c : Course) (n : ℕ) → IsOn c n self.old →
             IsOn c (round_from n turn.now.number) self.new × IsRound n turn.now.number) }
-        ensures misfit { IfErr result (λ halt. OnFault halt (λ f. (c : Course) (n : ℕ) → IsOn c n self.old →
+        ensures misfit { IfErr result (λ halt.
+            OnFault halt (λ f. (c : Course) (n : ℕ) → IsOn c n self.old →
             HasNoRound n (turn_view turn.now) self.old.way.execution.standing f)) }
     {
         let Some(round) = turn.number else {
@@ -206,12 +224,16 @@ impl<'a> Follower<'a> {
 
     /// A hart's steps up to its next call.
     fn call(&mut self, hart: u8) -> Result<(), Halt>
-        ensures called { OnOk result ((c : Course) (n : ℕ) → IsOn c n self.old → AreWithin c.lines self.old.way.execution.standing →
-            IsOn c n self.new × AreWithin c.lines self.new.way.execution.standing ×
-            Calls c.image (line_of c.lines hart) n hart self.old.way.execution.standing self.new.way.execution.standing) }
-        ensures misfit { IfErr result (λ halt. OnFault halt (λ f. (c : Course) (n : ℕ) → IsOn c n self.old →
+        ensures called { OnOk result ((c : Course) (n : ℕ) → IsOn c n self.old →
             AreWithin c.lines self.old.way.execution.standing →
-            IsFaultAfter IsCallMisfit c.image (line_of c.lines hart) n hart 0 self.old.way.execution.standing f)) }
+            IsOn c n self.new × AreWithin c.lines self.new.way.execution.standing ×
+            Calls c.image (line_of c.lines hart) n hart self.old.way.execution.standing
+            self.new.way.execution.standing) }
+        ensures misfit { IfErr result (λ halt.
+            OnFault halt (λ f. (c : Course) (n : ℕ) → IsOn c n self.old →
+            AreWithin c.lines self.old.way.execution.standing →
+            IsFaultAfter IsCallMisfit c.image (line_of c.lines hart) n hart 0
+            self.old.way.execution.standing f)) }
     {
         for _step in 0..self.left(hart) {
             let is_call = self.go(hart)?;
@@ -224,12 +246,17 @@ impl<'a> Follower<'a> {
 
     /// A hart's other instructions.
     fn run_on(&mut self, hart: u8) -> Result<(), Halt>
-        ensures ran { OnOk result ((c : Course) (n : ℕ) → IsOn c n self.old → AreWithin c.lines self.old.way.execution.standing →
-            IsOn c n self.new × AreWithin c.lines self.new.way.execution.standing ×
-            HasRun c.image (line_of c.lines hart) n hart self.old.way.execution.standing self.new.way.execution.standing) }
-        ensures misfit { IfErr result (λ halt. OnFault halt (λ f. (c : Course) (n : ℕ) → IsOn c n self.old →
+        ensures ran { OnOk result ((c : Course) (n : ℕ) → IsOn c n self.old →
             AreWithin c.lines self.old.way.execution.standing →
-            (k : ℕ) × IsFaultAfter IsEndMisfit c.image (line_of c.lines hart) n hart k self.old.way.execution.standing f)) }
+            IsOn c n self.new × AreWithin c.lines self.new.way.execution.standing ×
+            HasRun c.image (line_of c.lines hart) n hart self.old.way.execution.standing
+            self.new.way.execution.standing) }
+        ensures misfit { IfErr result (λ halt.
+            OnFault halt (λ f. (c : Course) (n : ℕ) → IsOn c n self.old →
+            AreWithin c.lines self.old.way.execution.standing →
+            (k : ℕ) ×
+            IsFaultAfter IsEndMisfit c.image (line_of c.lines hart) n hart k
+            self.old.way.execution.standing f)) }
     {
         for _step in 0..self.left(hart) {
             self.go(hart)?;
@@ -239,11 +266,16 @@ impl<'a> Follower<'a> {
 
     /// A hart's stop, as it is said.
     fn stop(&mut self, hart: u8, part: &HartDeeds) -> Result<(), Halt>
-        ensures stops { OnOk result ((c : Course) (n : ℕ) → IsOn c n self.old → hart < length c.lines → IsOn c n self.new ×
-            StopsWith c.image n hart part.now.code part.now.value self.old.way.execution.standing self.new.way.execution.standing) }
-        ensures misfit { IfErr result (λ halt. OnFault halt (λ f. (c : Course) (n : ℕ) → IsOn c n self.old → hart < length c.lines →
-            hart_view part.now ≡ line_of c.lines hart → done_by self.old.way.execution.standing hart ≡ part.now.steps → part.now.code ≢ 0 →
-            IsFaultAt IsEndMisfit c.image (line_of c.lines hart) n hart self.old.way.execution.standing f)) }
+        ensures stops { OnOk result ((c : Course) (n : ℕ) → IsOn c n self.old →
+            hart < length c.lines → IsOn c n self.new ×
+            StopsWith c.image n hart part.now.code part.now.value self.old.way.execution.standing
+            self.new.way.execution.standing) }
+        ensures misfit { IfErr result (λ halt.
+            OnFault halt (λ f. (c : Course) (n : ℕ) → IsOn c n self.old → hart < length c.lines →
+            hart_view part.now ≡ line_of c.lines hart →
+            done_by self.old.way.execution.standing hart ≡ part.now.steps → part.now.code ≢ 0 →
+            IsFaultAt IsEndMisfit c.image (line_of c.lines hart) n hart
+            self.old.way.execution.standing f)) }
     {
         let done = self.done(hart);
         let taken = self.step(hart)?;
@@ -255,13 +287,19 @@ impl<'a> Follower<'a> {
 
     /// The end of a hart that has done all its instructions: it runs on, or stops as is said.
     fn end(&mut self, hart: u8, part: &HartDeeds) -> Result<(), Halt>
-        ensures ended { OnOk result ((c : Course) (n : ℕ) → IsOn c n self.old → AreWithin c.lines self.old.way.execution.standing →
-            hart < length c.lines → hart_view part.now ≡ line_of c.lines hart → (part.now.code ≡ 0 → part.now.value ≡ None) →
+        ensures ended { OnOk result ((c : Course) (n : ℕ) → IsOn c n self.old →
+            AreWithin c.lines self.old.way.execution.standing →
+            hart < length c.lines → hart_view part.now ≡ line_of c.lines hart →
+            (part.now.code ≡ 0 → part.now.value ≡ None) →
             IsOn c n self.new × AreWithin c.lines self.new.way.execution.standing ×
-            IsEnd c.image (line_of c.lines hart) n hart self.old.way.execution.standing self.new.way.execution.standing) }
-        ensures misfit { IfErr result (λ halt. OnFault halt (λ f. (c : Course) (n : ℕ) → IsOn c n self.old → hart < length c.lines →
-            hart_view part.now ≡ line_of c.lines hart → done_by self.old.way.execution.standing hart ≡ part.now.steps →
-            IsFaultAt IsEndMisfit c.image (line_of c.lines hart) n hart self.old.way.execution.standing f)) }
+            IsEnd c.image (line_of c.lines hart) n hart self.old.way.execution.standing
+            self.new.way.execution.standing) }
+        ensures misfit { IfErr result (λ halt.
+            OnFault halt (λ f. (c : Course) (n : ℕ) → IsOn c n self.old → hart < length c.lines →
+            hart_view part.now ≡ line_of c.lines hart →
+            done_by self.old.way.execution.standing hart ≡ part.now.steps →
+            IsFaultAt IsEndMisfit c.image (line_of c.lines hart) n hart
+            self.old.way.execution.standing f)) }
     {
         if part.code == 0 {
             return Ok(());
@@ -281,13 +319,19 @@ impl<'a> Follower<'a> {
 
     /// A hart's other steps, and its stop.
     fn finish(&mut self, hart: u8, part: &HartDeeds) -> Result<(), Halt>
-        ensures ended { OnOk result ((c : Course) (n : ℕ) → IsOn c n self.old → AreWithin c.lines self.old.way.execution.standing →
+        ensures ended { OnOk result ((c : Course) (n : ℕ) → IsOn c n self.old →
+            AreWithin c.lines self.old.way.execution.standing →
             hart < length c.lines → hart_view part.now ≡ line_of c.lines hart →
             IsOn c n self.new × AreWithin c.lines self.new.way.execution.standing ×
-            Ends c.image (line_of c.lines hart) n hart self.old.way.execution.standing self.new.way.execution.standing) }
-        ensures misfit { IfErr result (λ halt. OnFault halt (λ f. (c : Course) (n : ℕ) → IsOn c n self.old →
-            AreWithin c.lines self.old.way.execution.standing → hart < length c.lines → hart_view part.now ≡ line_of c.lines hart →
-            (k : ℕ) × IsFaultAfter IsEndMisfit c.image (line_of c.lines hart) n hart k self.old.way.execution.standing f)) }
+            Ends c.image (line_of c.lines hart) n hart self.old.way.execution.standing
+            self.new.way.execution.standing) }
+        ensures misfit { IfErr result (λ halt.
+            OnFault halt (λ f. (c : Course) (n : ℕ) → IsOn c n self.old →
+            AreWithin c.lines self.old.way.execution.standing → hart < length c.lines →
+            hart_view part.now ≡ line_of c.lines hart →
+            (k : ℕ) ×
+            IsFaultAfter IsEndMisfit c.image (line_of c.lines hart) n hart k
+            self.old.way.execution.standing f)) }
     {
         if has_stray_value(part) {
             return Err(fault_at(hart, self.done(hart), Misfit::RunsOnWithValue));
@@ -303,11 +347,15 @@ impl<'a> Follower<'a> {
 
     /// The calls of a file, in their order.
     fn follow_calls(&mut self, calls: &[Turn]) -> Result<(), Halt>
-        ensures called { OnOk result ((c : Course) → IsOn c 0 self.old → AreWithin c.lines self.old.way.execution.standing →
-            self.old.way.execution.standing ≡ c.start → (n : ℕ) × IsOn c n self.new × AreWithin c.lines self.new.way.execution.standing ×
-            AreCalled c.image c.lines c.start (map turn_view calls.now) n self.new.way.execution.standing) }
+        ensures called { OnOk result ((c : Course) → IsOn c 0 self.old →
+            AreWithin c.lines self.old.way.execution.standing →
+            self.old.way.execution.standing ≡ c.start → (n : ℕ) × IsOn c n self.new ×
+            AreWithin c.lines self.new.way.execution.standing ×
+            AreCalled c.image c.lines c.start (map turn_view calls.now) n
+            self.new.way.execution.standing) }
         ensures misfit { IfErr result (λ halt. OnFault halt (λ f. (c : Course) → IsOn c 0 self.old →
-            AreWithin c.lines self.old.way.execution.standing → self.old.way.execution.standing ≡ c.start →
+            AreWithin c.lines self.old.way.execution.standing →
+            self.old.way.execution.standing ≡ c.start →
             StopsInCall c.image c.lines (map turn_view calls.now) c.start f)) }
     {
         for turn in calls {
@@ -319,9 +367,13 @@ impl<'a> Follower<'a> {
 
     /// The ends of the harts, one after another.
     fn follow_ends(&mut self) -> Result<(), Halt>
-        ensures ended { OnOk result ((c : Course) (n : ℕ) → IsOn c n self.old → AreWithin c.lines self.old.way.execution.standing →
-            IsOn c n self.new × HaveEnded c.image c.lines n self.old.way.execution.standing (length c.lines) self.new.way.execution.standing) }
-        ensures misfit { IfErr result (λ halt. OnFault halt (λ f. (c : Course) (n : ℕ) (turns : List TurnSaid) → IsOn c n self.old →
+        ensures ended { OnOk result ((c : Course) (n : ℕ) → IsOn c n self.old →
+            AreWithin c.lines self.old.way.execution.standing →
+            IsOn c n self.new ×
+            HaveEnded c.image c.lines n self.old.way.execution.standing (length c.lines)
+            self.new.way.execution.standing) }
+        ensures misfit { IfErr result (λ halt.
+            OnFault halt (λ f. (c : Course) (n : ℕ) (turns : List TurnSaid) → IsOn c n self.old →
             AreWithin c.lines self.old.way.execution.standing →
             AreCalled c.image c.lines c.start turns n self.old.way.execution.standing →
             StopsInEnd c.image c.lines turns c.start f)) }
@@ -337,11 +389,14 @@ impl<'a> Follower<'a> {
 
     /// All that the file says: first the calls in their order, and then the harts, one after another.
     pub(crate) fn follow(&mut self, calls: &[Turn]) -> Result<(), Halt>
-        ensures followed { OnOk result ((c : Course) → IsOn c 0 self.old → AreWithin c.lines self.old.way.execution.standing →
+        ensures followed { OnOk result ((c : Course) → IsOn c 0 self.old →
+            AreWithin c.lines self.old.way.execution.standing →
             self.old.way.execution.standing ≡ c.start → (n : ℕ) × IsOn c n self.new ×
-            AreFollowed c.image c.lines (map turn_view calls.now) c.start self.new.way.execution.standing) }
+            AreFollowed c.image c.lines (map turn_view calls.now) c.start
+            self.new.way.execution.standing) }
         ensures misfit { IfErr result (λ halt. OnFault halt (λ f. (c : Course) → IsOn c 0 self.old →
-            AreWithin c.lines self.old.way.execution.standing → self.old.way.execution.standing ≡ c.start →
+            AreWithin c.lines self.old.way.execution.standing →
+            self.old.way.execution.standing ≡ c.start →
             IsUnfollowed c.image c.lines (map turn_view calls.now) c.start f)) }
     {
         self.follow_calls(calls)?;

@@ -19,8 +19,10 @@ fn shared_at_start(
     harts: u32,
 ) -> Result<SharedState, OutOfMemory>
     requires { harts ≤ MOST_HARTS }
-    ensures memory { IfOk result (λ s. s.pages.memory ≡ (opening_guest image.now input.now harts).shared.memory) }
-    ensures console { IfOk result (λ s. s.console.console ≡ (opening_guest image.now input.now harts).shared.console) }
+    ensures memory { IfOk result (λ s. s.pages.memory
+        ≡ (opening_guest image.now input.now harts).shared.memory) }
+    ensures console { IfOk result (λ s. s.console.console
+        ≡ (opening_guest image.now input.now harts).shared.console) }
     ensures reservations { IfOk result (λ s. length s.reservations ≡ harts) }
 {
     let pages = image.to_pages(alloc)?;
@@ -42,8 +44,10 @@ pub fn open_execution(
     harts: u32,
 ) -> Result<Execution, OutOfMemory>
     requires { harts ≤ MOST_HARTS }
-    ensures memory { IfOk result (λ e. e.memory ≡ (opening_guest image.now input.now harts).shared.memory) }
-    ensures standing { IfOk result (λ e. e.standing ≡ start_of (opening_guest image.now input.now harts)) }
+    ensures memory { IfOk result (λ e. e.memory
+        ≡ (opening_guest image.now input.now harts).shared.memory) }
+    ensures standing { IfOk result (λ e. e.standing
+        ≡ start_of (opening_guest image.now input.now harts)) }
 {
     let opened = opening_harts(alloc, image.entry(), harts)?;
     let shared = shared_at_start(alloc, image, input, harts)?;

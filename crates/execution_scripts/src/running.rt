@@ -38,7 +38,8 @@ pub fn execution_of_run<O: Observer, R: Threads + Wait + Sync>(
     observer: &mut O,
 ) -> Result<ExecutionFile, RunError>
     ensures file { IfOk result (λ f. (plan : Planned) × IsPlan settings.now plan ×
-        IsFileOf settings.now image.now input.now (after_run settings.now image.now input.now plan) (as_recorded f)) }
+        IsFileOf settings.now image.now input.now (after_run settings.now image.now input.now plan)
+        (as_recorded f)) }
     // Numbers out of range are refused first, then an image, and then a plan.
     ensures in_order { RefusedInOrder settings.now image.now result }
     // What is refused then is for a reason that stands.
@@ -120,7 +121,8 @@ fn paces_of<O: Observer, R: Threads + Wait + Sync>(
 
 /// What the harts of a machine did, and the order by rounds of what they did.
 fn deeds_of(alloc: Global, machine: &Machine) -> Result<(Vec<HartDeeds>, Vec<Turn>), OutOfMemory>
-    ensures { IfOk result (λ d. map hart_view d.0.items ≡ deeds machine.now.state.harts machine.now.state.trace) }
+    ensures { IfOk result (λ d. map hart_view d.0.items
+        ≡ deeds machine.now.state.harts machine.now.state.trace) }
 {
     let events = machine.trace().to_vec(alloc)?;
     let order = order_by_rounds(alloc, machine, &events)?;
@@ -148,7 +150,9 @@ fn file_of(
 ) -> Result<ExecutionFile, RunError>
     requires some_pages { 1 ≤ settings.now.pages }
     requires few_pages { settings.now.pages ≤ MOST_PAGES }
-    ensures file { IfOk result (λ f. IsFileWith settings.now image.now input.now (map hart_view ran.parts.items) (as_recorded f)) }
+    ensures file { IfOk result (λ f.
+        IsFileWith settings.now image.now input.now (map hart_view ran.parts.items)
+        (as_recorded f)) }
     ensures errors { IfErr result (λ e. IsReason settings.now image.now e) }
 {
     let calls = calls_in(alloc, image, input, settings, &ran)?;

@@ -34,7 +34,8 @@ pub fn order_said(
     file: &ExecutionFile,
     execution: &Execution,
 ) -> Result<Said, OutOfMemory>
-    ensures { IfOk result (IsSaid (as_recorded file.now).harts (as_recorded file.now).order execution.now.standing) }
+    ensures { IfOk result (IsSaid (as_recorded file.now).harts (as_recorded file.now).order
+        execution.now.standing) }
 {
     let did = deeds(alloc, execution.harts(), execution.events())?;
     if !are_said(&file.harts, &did) {
@@ -70,7 +71,8 @@ fn otherwise() -> Fault
 
 /// The turn at an index names no operation.
 fn unnamed(file: &ExecutionFile, index: usize) -> Fault
-    ensures { (t : List Event) → NamesNone (as_recorded file.now).order t index → IsUnnamed (as_recorded file.now).order t result }
+    ensures { (t : List Event) → NamesNone (as_recorded file.now).order t index →
+        IsUnnamed (as_recorded file.now).order t result }
 {
     match turn_at(file, index) {
         Some(turn) => Fault {

@@ -99,7 +99,8 @@ fn calls_of(
     execution: &mut Execution,
     script: &[ScriptedStep],
 ) -> Result<Vec<Turn>, OutOfMemory>
-    ensures { OnOk result (length execution.new.standing.harts ≡ length execution.old.standing.harts) }
+    ensures { OnOk result (length execution.new.standing.harts
+        ≡ length execution.old.standing.harts) }
 {
     let mut calls = Vec::new(alloc);
     for step in script {
@@ -115,7 +116,8 @@ fn take_step(
     calls: &mut Vec<Turn>,
     step: ScriptedStep,
 ) -> Result<(), OutOfMemory>
-    ensures { OnOk result (length execution.new.standing.harts ≡ length execution.old.standing.harts) }
+    ensures { OnOk result (length execution.new.standing.harts
+        ≡ length execution.old.standing.harts) }
 {
     let call = call_number(execution, step.hart);
     let index = execution.instructions().len();

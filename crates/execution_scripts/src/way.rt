@@ -41,7 +41,8 @@ impl Way {
         requires { harts ≤ MOST_HARTS }
         ensures way { IfOk result (λ w. let g = opening_guest image.now input.now harts in
             IsWay g.shared.memory (start_of g) asked w) }
-        ensures standing { IfOk result (λ w. w.execution.standing ≡ start_of (opening_guest image.now input.now harts)) }
+        ensures standing { IfOk result (λ w.
+            w.execution.standing ≡ start_of (opening_guest image.now input.now harts)) }
     {
         let execution = open_execution(alloc, image, input, harts)?;
         Ok(Way {

@@ -32,8 +32,10 @@ pub fn answer<K: Sink>(
     request: Request,
     out: &mut K,
 ) -> Result<(), RunError>
-    ensures answers { OnOk result (Answered (looked_at past.now) (state_of session.old) request (K.took out.old) (K.took out.new) (state_of session.new)) }
-    ensures refused { result ≡ Err refusals.OutOfMemory → (K.took out.new ≡ K.took out.old) × (state_of session.new ≡ state_of session.old) }
+    ensures answers { OnOk result (Answered (looked_at past.now) (state_of session.old) request
+        (K.took out.old) (K.took out.new) (state_of session.new)) }
+    ensures refused { result ≡ Err refusals.OutOfMemory → (K.took out.new ≡ K.took out.old) ×
+        (state_of session.new ≡ state_of session.old) }
 {
     match request {
         Request::SelectGeneral(thread) => select_general(alloc, past, session, thread, out),
@@ -62,8 +64,10 @@ fn resume<K: Sink>(
     request: Request,
     out: &mut K,
 ) -> Result<(), RunError>
-    ensures resumes { OnOk result (Wrote (K.took out.old) (K.took out.new) (state_of session.new) (resumed (looked_at past.now) (state_of session.old) request)) }
-    ensures refused { result ≡ Err refusals.OutOfMemory → (K.took out.new ≡ K.took out.old) × (state_of session.new ≡ state_of session.old) }
+    ensures resumes { OnOk result (Wrote (K.took out.old) (K.took out.new) (state_of session.new)
+        (resumed (looked_at past.now) (state_of session.old) request)) }
+    ensures refused { result ≡ Err refusals.OutOfMemory → (K.took out.new ≡ K.took out.old) ×
+        (state_of session.new ≡ state_of session.old) }
 {
     match standing_after(alloc, past, session, request)? {
         Some(standing) => {
@@ -82,7 +86,8 @@ fn standing_after(
     session: &Session,
     request: Request,
 ) -> Result<Option<Standing>, RunError>
-    ensures { IfOk result (λ x. x ≡ standing_after (looked_at past.now) (state_of session.now) request) }
+    ensures { IfOk result (λ x.
+        x ≡ standing_after (looked_at past.now) (state_of session.now) request) }
 {
     let standing = match request {
         // A step in a range ends behind its first step: gdb asks for the next one.
@@ -105,7 +110,8 @@ fn standing_after(
 
 /// Says that it is done, or that there is no such hart.
 fn say_done<K: Sink>(alloc: Global, hart: Option<u8>, out: &mut K) -> Result<(), RunError>
-    ensures writes { OnOk result (K.took out.new ≡ K.took out.old ++ packet_text (done_or_missing hart)) }
+    ensures writes { OnOk result (K.took out.new ≡ K.took out.old
+        ++ packet_text (done_or_missing hart)) }
     ensures memory { result ≡ Err refusals.OutOfMemory → K.took out.new ≡ K.took out.old }
 {
     match hart {
@@ -122,8 +128,10 @@ fn select_general<K: Sink>(
     thread: Option<u64>,
     out: &mut K,
 ) -> Result<(), RunError>
-    ensures selects { OnOk result (Wrote (K.took out.old) (K.took out.new) (state_of session.new) (selects_general (looked_at past.now) (state_of session.old) thread)) }
-    ensures refused { result ≡ Err refusals.OutOfMemory → (K.took out.new ≡ K.took out.old) × (state_of session.new ≡ state_of session.old) }
+    ensures selects { OnOk result (Wrote (K.took out.old) (K.took out.new) (state_of session.new)
+        (selects_general (looked_at past.now) (state_of session.old) thread)) }
+    ensures refused { result ≡ Err refusals.OutOfMemory → (K.took out.new ≡ K.took out.old) ×
+        (state_of session.new ≡ state_of session.old) }
 {
     let Some(thread) = thread else {
         return write_reply(alloc, &Reply::Done, out);
@@ -144,8 +152,10 @@ fn select_moving<K: Sink>(
     thread: Option<u64>,
     out: &mut K,
 ) -> Result<(), RunError>
-    ensures selects { OnOk result (Wrote (K.took out.old) (K.took out.new) (state_of session.new) (selects_moving (looked_at past.now) (state_of session.old) thread)) }
-    ensures refused { result ≡ Err refusals.OutOfMemory → (K.took out.new ≡ K.took out.old) × (state_of session.new ≡ state_of session.old) }
+    ensures selects { OnOk result (Wrote (K.took out.old) (K.took out.new) (state_of session.new)
+        (selects_moving (looked_at past.now) (state_of session.old) thread)) }
+    ensures refused { result ≡ Err refusals.OutOfMemory → (K.took out.new ≡ K.took out.old) ×
+        (state_of session.new ≡ state_of session.old) }
 {
     let Some(thread) = thread else {
         write_reply(alloc, &Reply::Done, out)?;
@@ -191,7 +201,8 @@ fn reply_to<K: Sink>(
     request: Request,
     out: &mut K,
 ) -> Result<(), RunError>
-    ensures writes { OnOk result (K.took out.new ≡ K.took out.old ++ packet_text (reply_at (looked_at past.now) standing request)) }
+    ensures writes { OnOk result (K.took out.new ≡ K.took out.old
+        ++ packet_text (reply_at (looked_at past.now) standing request)) }
     ensures memory { result ≡ Err refusals.OutOfMemory → K.took out.new ≡ K.took out.old }
 {
     match fixed_reply(past, standing, request) {
@@ -208,7 +219,8 @@ fn reply_at<K: Sink>(
     request: Request,
     out: &mut K,
 ) -> Result<(), RunError>
-    ensures writes { OnOk result (K.took out.new ≡ K.took out.old ++ packet_text (moment_text (looked_at past.now) standing request)) }
+    ensures writes { OnOk result (K.took out.new ≡ K.took out.old
+        ++ packet_text (moment_text (looked_at past.now) standing request)) }
     ensures memory { result ≡ Err refusals.OutOfMemory → K.took out.new ≡ K.took out.old }
 {
     match request {
@@ -235,7 +247,8 @@ fn say_threads<K: Sink>(
     count: u64,
     out: &mut K,
 ) -> Result<(), RunError>
-    ensures writes { OnOk result (K.took out.new ≡ K.took out.old ++ packet_text (part_of (thread_list (looked_at past.now) standing.time) offset count)) }
+    ensures writes { OnOk result (K.took out.new ≡ K.took out.old
+        ++ packet_text (part_of (thread_list (looked_at past.now) standing.time) offset count)) }
     ensures memory { result ≡ Err refusals.OutOfMemory → K.took out.new ≡ K.took out.old }
 {
     let text = thread_list(alloc, past, standing.time)?;
@@ -256,7 +269,8 @@ fn say_memory<K: Sink>(
     count: u64,
     out: &mut K,
 ) -> Result<(), RunError>
-    ensures writes { OnOk result (K.took out.new ≡ K.took out.old ++ packet_text (memory_at (looked_at past.now) standing address count)) }
+    ensures writes { OnOk result (K.took out.new ≡ K.took out.old
+        ++ packet_text (memory_at (looked_at past.now) standing address count)) }
     ensures memory { result ≡ Err refusals.OutOfMemory → K.took out.new ≡ K.took out.old }
 {
     let bytes = past.bytes_at(alloc, standing.time, standing.general, address, count)?;
@@ -305,7 +319,8 @@ fn say_registers<K: Sink>(
     number: Option<u64>,
     out: &mut K,
 ) -> Result<(), RunError>
-    ensures writes { OnOk result (K.took out.new ≡ K.took out.old ++ packet_text (registers_at (looked_at past.now) standing number)) }
+    ensures writes { OnOk result (K.took out.new ≡ K.took out.old
+        ++ packet_text (registers_at (looked_at past.now) standing number)) }
     ensures memory { result ≡ Err refusals.OutOfMemory → K.took out.new ≡ K.took out.old }
 {
     let Some(hart) = past.course.hart_at(standing.time, standing.general) else {
@@ -329,7 +344,8 @@ fn say_where<K: Sink>(
     standing: Standing,
     out: &mut K,
 ) -> Result<(), RunError>
-    ensures writes { OnOk result (K.took out.new ≡ K.took out.old ++ packet_text (stands_text (looked_at past.now) standing)) }
+    ensures writes { OnOk result (K.took out.new ≡ K.took out.old
+        ++ packet_text (stands_text (looked_at past.now) standing)) }
     ensures memory { result ≡ Err refusals.OutOfMemory → K.took out.new ≡ K.took out.old }
 {
     match past.course.hart_at(standing.time, standing.told) {

@@ -68,7 +68,8 @@ impl Past {
         address: u64,
         count: u64,
     ) -> Result<Vec<u8>, OutOfMemory>
-        ensures { IfOk result (λ v. v.items ≡ bytes_seen (looked_at self.now) time hart address count) }
+        ensures { IfOk result (λ v. v.items
+            ≡ bytes_seen (looked_at self.now) time hart address count) }
     {
         if address >= u64::from(self.size) {
             return Ok(Vec::new(alloc));
@@ -100,7 +101,8 @@ pub(crate) fn why(software: &[u64], hardware: &[u64], hart: &Hart) -> Reason
 
 /// The same in a session.
 pub(crate) fn why_in(session: &Session, hart: &Hart) -> Reason
-    ensures { result ≡ why (state_of session.now).software (state_of session.now).hardware hart.now }
+    ensures { result ≡ why (state_of session.now).software (state_of session.now).hardware
+        hart.now }
 {
     let hardware = session.hardware.as_slice();
     why(session.software.as_slice(), hardware, hart)

@@ -17,7 +17,8 @@ use std::alloc::Global;
 fn all_told(alloc: Global, session: &Session, each: Option<u32>) -> Result<Asked, OutOfMemory>
     ensures each { IfOk result (λ a. a.each ≡ each) }
     ensures faults { IfOk result (λ a. a.faults ≡ true) }
-    ensures stops { IfOk result (λ a. a.stops.items ≡ (state_of session.now).software ++ (state_of session.now).hardware) }
+    ensures stops { IfOk result (λ a. a.stops.items ≡ (state_of session.now).software
+        ++ (state_of session.now).hardware) }
 {
     let mut stops = Vec::from_slice(alloc, session.software.as_slice())?;
     stops.extend_from_slice(session.hardware.as_slice())?;
@@ -63,7 +64,8 @@ fn next_behind(
     each: Option<u32>,
     time: usize,
 ) -> Result<Option<usize>, OutOfMemory>
-    ensures { IfOk result (λ x. x ≡ next_in (looked_at past.now) (state_of session.now) each (time + 1)) }
+    ensures { IfOk result (λ x.
+        x ≡ next_in (looked_at past.now) (state_of session.now) each (time + 1)) }
 {
     let asked = all_told(alloc, session, each)?;
     Ok(past.course.next_told_behind(&asked, time))
@@ -76,7 +78,8 @@ fn next_ahead(
     session: &Session,
     each: Option<u32>,
 ) -> Result<Option<usize>, OutOfMemory>
-    ensures { IfOk result (λ x. x ≡ next_in (looked_at past.now) (state_of session.now) each (ahead session.now.standing)) }
+    ensures { IfOk result (λ x.
+        x ≡ next_in (looked_at past.now) (state_of session.now) each (ahead session.now.standing)) }
 {
     let time = session.standing.time;
     if session.standing.passed {
@@ -93,7 +96,9 @@ fn last_before(
     session: &Session,
     each: Option<u32>,
 ) -> Result<Option<usize>, OutOfMemory>
-    ensures { IfOk result (λ x. x ≡ previous_in (looked_at past.now) (state_of session.now) each session.now.standing.time) }
+    ensures { IfOk result (λ x.
+        x ≡ previous_in (looked_at past.now) (state_of session.now) each
+        session.now.standing.time) }
 {
     let asked = all_told(alloc, session, each)?;
     Ok(past.course.previous_told(&asked, session.standing.time))
@@ -206,7 +211,8 @@ fn step_from(
     hart: u8,
     first: Option<usize>,
 ) -> Result<Standing, OutOfMemory>
-    ensures { IfOk result (λ t. t ≡ steps_by (looked_at past.now) (state_of session.now) hart first) }
+    ensures { IfOk result (λ t.
+        t ≡ steps_by (looked_at past.now) (state_of session.now) hart first) }
 {
     let end = at_end(past, session.standing);
     let Some(first) = first else {
@@ -253,7 +259,8 @@ pub(crate) fn step_back(
 }
 
 fn step_back_alone(alloc: Global, past: &Past, standing: Standing, hart: u8) -> Standing
-    ensures { result ≡ back_alone_to (looked_at past.now) standing hart (previous_by past.now.course (Some hart) false [] standing.time) }
+    ensures { result ≡ back_alone_to (looked_at past.now) standing hart
+        (previous_by past.now.course (Some hart) false [] standing.time) }
 {
     let asked = only_of(alloc, hart);
     let Some(time) = past.course.previous_told(&asked, standing.time) else {

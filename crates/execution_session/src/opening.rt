@@ -52,7 +52,9 @@ pub fn open(alloc: Global, file: &ExecutionFile) -> Result<Opened, RunError>
 
 /// The same of a file that RVWMO allows.
 fn open_allowed(alloc: Global, file: &ExecutionFile, checked: Checked) -> Result<Opened, RunError>
-    requires { (x : ℕ) → opening_at checked.opening.opening x ≡ slice_index (guest_in (as_recorded file.now)).shared.memory.bytes x }
+    requires { (x : ℕ) →
+        opening_at checked.opening.opening x
+        ≡ slice_index (guest_in (as_recorded file.now)).shared.memory.bytes x }
     ensures { IfOk result (λ o. IsOpened (as_recorded file.now) o) }
 {
     let followed = follow(alloc, file, &checked)?;
@@ -96,12 +98,14 @@ struct Followed {
 /// Follows the script of a file that was checked anew, and judges what it leads to.
 fn follow(alloc: Global, file: &ExecutionFile, checked: &Checked) -> Result<Followed, RunError>
     ensures verdict { IfOk result (λ f. let g = guest_in (as_recorded file.now) in
-        (v : Verdict) → f.finding ≡ Judged v → IsVerdict v g.shared.memory (opening_at checked.now.opening.opening)
+        (v : Verdict) → f.finding ≡ Judged v →
+        IsVerdict v g.shared.memory (opening_at checked.now.opening.opening)
         checked.now.script.items checked.now.order.0.items (start_of g) f.execution.standing) }
     ensures course { IfOk result (λ f. let g = guest_in (as_recorded file.now) in
         MatchOption f.course (f.finding ≢ Judged Allowed) (λ c. (f.finding ≡ Judged Allowed) ×
         IsCourse g.shared.memory (start_of g) f.execution.standing checked.now.order.0.items c)) }
-    ensures as_said { IfOk result (λ f. (v : Verdict) → f.finding ≡ Judged v → IsAsSaid (as_recorded file.now).harts
+    ensures as_said { IfOk result (λ f. (v : Verdict) → f.finding ≡ Judged v →
+        IsAsSaid (as_recorded file.now).harts
         (as_recorded file.now).order f.execution.standing checked.now.order.0.items) }
     ensures harts { OnOk result (length file.now.harts.items ≤ MOST_HARTS) }
     ensures pages { OnOk result (file.now.pages ≤ MOST_PAGES) }
@@ -134,7 +138,8 @@ fn is_said(
     execution: &Execution,
     order: &Order,
 ) -> Result<bool, OutOfMemory>
-    ensures { IfOk result (λ yes. yes ≡ true → IsAsSaid (as_recorded file.now).harts (as_recorded file.now).order
+    ensures { IfOk result (λ yes. yes ≡ true →
+        IsAsSaid (as_recorded file.now).harts (as_recorded file.now).order
         execution.now.standing order.now.0.items) }
 {
     match order_said(alloc, file, execution)? {

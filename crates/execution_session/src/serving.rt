@@ -20,7 +20,9 @@ pub fn serve<S: Source, K: Sink>(
     src: &mut S,
     out: &mut K,
 ) -> Result<(), RunError>
-    ensures { OnOk result ((t : Talking) × (rest : List ℕ) × Served (looked_at past.now) (S.gave src.old) (S.gave src.new) (K.took out.old) (K.took out.new) rest t × HasEnded t rest) }
+    ensures { OnOk result ((t : Talking) × (rest : List ℕ) ×
+        Served (looked_at past.now) (S.gave src.old) (S.gave src.new) (K.took out.old)
+        (K.took out.new) rest t × HasEnded t rest) }
 {
     let mut talk = Talk::new(alloc);
     let mut reader = Reader::new();
@@ -43,8 +45,10 @@ fn hear_next<S: Source, K: Sink>(
     out: &mut K,
 ) -> Result<bool, RunError>
     ensures { IfOk result (λ more. (g k : List ℕ) →
-        Served (looked_at past.now) g (S.gave src.old) k (K.took out.old) reader.old (talking talk.old) →
-        ServesOn (looked_at past.now) g (S.gave src.new) k (K.took out.new) reader.new (talking talk.new) more) }
+        Served (looked_at past.now) g (S.gave src.old) k (K.took out.old) reader.old
+        (talking talk.old) →
+        ServesOn (looked_at past.now) g (S.gave src.new) k (K.took out.new) reader.new
+        (talking talk.new) more) }
 {
     let heard = match reader.next(alloc, src) {
         Ok(heard) => heard,

@@ -40,7 +40,9 @@ impl Talk {
         item: &Item,
         out: &mut K,
     ) -> Result<(), RunError>
-        ensures { OnOk result ((written : List ℕ) × Hears (looked_at past.now) (talking self.old) (told_in item.now) written (talking self.new) × (K.took out.new ≡ K.took out.old ++ written)) }
+        ensures { OnOk result ((written : List ℕ) ×
+            Hears (looked_at past.now) (talking self.old) (told_in item.now) written
+            (talking self.new) × (K.took out.new ≡ K.took out.old ++ written)) }
     {
         acknowledge(item, out)?;
         let Some(request) = asked_by(item, self.last) else {
@@ -67,7 +69,9 @@ fn reply<K: Sink>(
     request: Request,
     out: &mut K,
 ) -> Result<(), RunError>
-    ensures { OnOk result ((written : List ℕ) × RepliesTo (looked_at past.now) (state_of session.old) request written (state_of session.new) × (K.took out.new ≡ K.took out.old ++ written)) }
+    ensures { OnOk result ((written : List ℕ) ×
+        RepliesTo (looked_at past.now) (state_of session.old) request written
+        (state_of session.new) × (K.took out.new ≡ K.took out.old ++ written)) }
 {
     match request {
         Request::Kill => Ok(()),
@@ -83,7 +87,9 @@ fn answer_or_refuse<K: Sink>(
     request: Request,
     out: &mut K,
 ) -> Result<(), RunError>
-    ensures { OnOk result ((written : List ℕ) × Replies (looked_at past.now) (state_of session.old) request written (state_of session.new) × (K.took out.new ≡ K.took out.old ++ written)) }
+    ensures { OnOk result ((written : List ℕ) ×
+        Replies (looked_at past.now) (state_of session.old) request written (state_of session.new) ×
+        (K.took out.new ≡ K.took out.old ++ written)) }
 {
     match answer(alloc, past, session, request, out) {
         Ok(()) => Ok(()),

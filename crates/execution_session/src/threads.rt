@@ -71,7 +71,8 @@ fn put_thread(
     hart: &Hart,
     position: usize,
 ) -> Result<(), OutOfMemory>
-    ensures { OnOk result (text.new.items ≡ text.old.items ++ thread_element number hart.now position) }
+    ensures { OnOk result (text.new.items ≡ text.old.items
+        ++ thread_element number hart.now position) }
 {
     put_words(text, b"<thread id=\"", u64::from(number) + 1)?;
     put_words(text, b"\" name=\"hart ", u64::from(number))?;

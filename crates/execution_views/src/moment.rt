@@ -125,7 +125,8 @@ fn source_at(events: &[Event], order: &[usize], moment: &Moment, address: u64) -
 
 /// The byte at an address, as a hart sees it at a moment.
 fn byte_at(opening: &Trace, events: &[Event], order: &[usize], moment: &Moment, address: u64) -> u8
-    ensures { result ≡ byte_at events.now (opening_at opening.now.opening) order.now moment.now address }
+    ensures { result ≡ byte_at events.now (opening_at opening.now.opening) order.now moment.now
+        address }
 {
     match source_at(events, order, moment, address) {
         Some(index) => byte_written(&event_of(events, index).access, address),
@@ -149,7 +150,8 @@ pub fn bytes_at(
     count: u32,
 ) -> Result<Vec<u8>, OutOfMemory>
     ensures { IfOk result (λ v. v.items ≡
-        bytes_at events.now (opening_at opening.now.opening) order.now.0.items moment.now first count) }
+        bytes_at events.now (opening_at opening.now.opening) order.now.0.items moment.now first
+        count) }
 {
     let first = u64::from(first);
     let end = first + u64::from(count);

@@ -62,7 +62,8 @@ fn is_sought_at(
     only_stores: bool,
     position: usize,
 ) -> bool
-    ensures { result ≡ is_sought ranges.now hart only_stores (event events.now (slice_index order.now position)) }
+    ensures { result ≡ is_sought ranges.now hart only_stores
+        (event events.now (slice_index order.now position)) }
 {
     let event = event_of(events, place_at(order, position));
     is_sought(ranges, hart, only_stores, &event)
@@ -84,7 +85,8 @@ pub fn positions_sought(
     hart: Option<u32>,
     only_stores: bool,
 ) -> Result<Vec<usize>, OutOfMemory>
-    ensures { IfOk result (λ v. v.items ≡ positions_sought events.now order.now.0.items ranges.now hart only_stores) }
+    ensures { IfOk result (λ v.
+        v.items ≡ positions_sought events.now order.now.0.items ranges.now hart only_stores) }
 {
     let order = order.0.as_slice();
     let positions: Vec<usize> = (0..order.len())

@@ -25,7 +25,8 @@ pub struct Notes {
 impl Notes {
     /// Nothing noted yet.
     pub fn new(alloc: Global) -> Notes
-        ensures { (image : Memory) (p : Standing) (asked : Option HartStep) → p.events ≡ [] → AreNotes image p p asked result }
+        ensures { (image : Memory) (p : Standing) (asked : Option HartStep) → p.events ≡ [] →
+            AreNotes image p p asked result }
     {
         Notes {
             sights: Sights {
@@ -71,7 +72,8 @@ fn note(
     number: u8,
     hart: Hart,
 ) -> Result<(), OutOfMemory>
-    ensures { OnOk result (notes.old.steps ≤ length notes.old.sights.pcs.items → IsNoted asked number hart notes.old notes.new) }
+    ensures { OnOk result (notes.old.steps ≤ length notes.old.sights.pcs.items →
+        IsNoted asked number hart notes.old notes.new) }
 {
     let index = notes.sights.pcs.len();
     notes.sights.pcs.push(hart.pc)?;
@@ -96,10 +98,14 @@ pub fn take_noted(
     asked: Option<HartStep>,
     step: ScriptedStep,
 ) -> Result<Option<StepFault>, OutOfMemory>
-    ensures like { (image : Memory) → IsLike image execution.old.memory → IsLike image execution.new.memory }
-    ensures took { IfOk result (λ fault. IsTaken fault execution.old.memory step execution.old.standing execution.new.standing) }
-    ensures notes { IfOk result (λ _. (image : Memory) (p : Standing) → IsLike image execution.old.memory →
-        Executes image p execution.old.standing → AreNotes image p execution.old.standing asked notes.old →
+    ensures like { (image : Memory) → IsLike image execution.old.memory →
+        IsLike image execution.new.memory }
+    ensures took { IfOk result (λ fault.
+        IsTaken fault execution.old.memory step execution.old.standing execution.new.standing) }
+    ensures notes { IfOk result (λ _. (image : Memory) (p : Standing) →
+        IsLike image execution.old.memory →
+        Executes image p execution.old.standing →
+        AreNotes image p execution.old.standing asked notes.old →
         AreNotes image p execution.new.standing asked notes.new) }
 {
     let Some(hart) = hart_of(execution, step.hart) else {

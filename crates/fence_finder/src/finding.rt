@@ -59,8 +59,10 @@ pub fn find_fences<S: Sink, O: FenceObserver, R: Threads + Wait + Sync>(
 ) -> Result<FoundFences, WeakHuntError>
     // RVWMO allows each execution that the table shows, and the sink takes its text.
     ensures writes { WritesAnswer S.took S.failures (IsSearchText settings.hunt image.now input.now)
-        (IsFaultOr (option_map Hunt (hunt_fault settings.hunt)) (IsWeakReason settings.hunt image.now))
-        (Hunt (hunting.Run refusals.OutOfMemory)) (Hunt (hunting.Run refusals.SinkFailed)) out.old out.new result }
+        (IsFaultOr (option_map Hunt (hunt_fault settings.hunt))
+        (IsWeakReason settings.hunt image.now))
+        (Hunt (hunting.Run refusals.OutOfMemory)) (Hunt (hunting.Run refusals.SinkFailed)) out.old
+        out.new result }
     // Where memory is refused, it took nothing.
     ensures memory { result ≡ Err (Hunt (hunting.Run refusals.OutOfMemory)) →
         S.took out.new ≡ S.took out.old }
@@ -110,8 +112,10 @@ fn searched<O: FenceObserver, R: Threads + Wait + Sync>(
     settings: &FenceSettings,
     observer: &mut O,
 ) -> Result<Findings, WeakHuntError>
-    ensures shown { IfOk result (λ f. ShowsOf settings.now.hunt image.now input.now f.missing.items) }
-    ensures settings { (e : Refusal) → hunt_fault settings.now.hunt ≡ Some e → result ≡ Err (Hunt e) }
+    ensures shown { IfOk result (λ f.
+        ShowsOf settings.now.hunt image.now input.now f.missing.items) }
+    ensures settings { (e : Refusal) → hunt_fault settings.now.hunt ≡ Some e →
+        result ≡ Err (Hunt e) }
     ensures errors { hunt_fault settings.now.hunt ≡ None →
         IfErr result (λ e. IsWeakReason settings.now.hunt image.now e) }
     ensures image { (cause : ImageCause) → hunt_fault settings.now.hunt ≡ None →

@@ -55,7 +55,8 @@ impl Findings {
         guest: &Guest<'_>,
         search: &Search,
     ) -> Result<Findings, WeakHuntError>
-        ensures shown { IfOk result (λ f. AreShown guest.now.opening.image.now guest.now.opening.input.now
+        ensures shown { IfOk result (λ f.
+            AreShown guest.now.opening.image.now guest.now.opening.input.now
             guest.now.opening.harts.now f.missing.items) }
         ensures errors { IfErr result (λ e. (e ≡ Hunt (hunting.Run refusals.OutOfMemory)) ⊎
             ((n : ℕ) × (e ≡ Unconfirmed n))) }
@@ -81,7 +82,8 @@ impl Findings {
         search: &Search,
     ) -> Result<(), WeakHuntError>
         requires { self.old.missing.items ≡ [] }
-        ensures shown { OnOk result (AreShown guest.now.opening.image.now guest.now.opening.input.now
+        ensures shown { OnOk result (AreShown guest.now.opening.image.now
+            guest.now.opening.input.now
             guest.now.opening.harts.now self.new.missing.items) }
         ensures errors { IfErr result (λ e. (e ≡ Hunt (hunting.Run refusals.OutOfMemory)) ⊎
             ((n : ℕ) × (e ≡ Unconfirmed n))) }
@@ -126,7 +128,8 @@ impl Findings {
 
     /// Puts a missing fence that was confirmed with the others.
     fn put(&mut self, confirmed: Confirmed) -> Result<(), OutOfMemory>
-        ensures { OnOk result (self.new.missing.items ≡ self.old.missing.items ++ confirmed.missing ∷ []) }
+        ensures { OnOk result (self.new.missing.items ≡ self.old.missing.items
+            ++ confirmed.missing ∷ []) }
     {
         let Confirmed { missing, execution } = confirmed;
         if let Some(execution) = execution {

@@ -53,7 +53,8 @@ impl Accepted {
     /// `NotAGap` for the first line that is none of these; `OutOfMemory`.
     pub fn read(alloc: Global, text: &[u8]) -> Result<Accepted, AcceptError>
         ensures found { IfOk result (λ a. accepted_in text.now ≡ Some a) }
-        ensures errors { IfErr result (λ e. (e ≡ refusals.OutOfMemory) ⊎ (accepted_in text.now ≡ None)) }
+        ensures errors { IfErr result (λ e. (e ≡ refusals.OutOfMemory) ⊎
+            (accepted_in text.now ≡ None)) }
     {
         let mut pairs = Vec::new(alloc);
         let mut rest = text;

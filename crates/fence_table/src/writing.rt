@@ -23,7 +23,8 @@ use std::alloc::Global;
 /// out.
 #[tactic(auto, unfolding(crate::specs::Text::fences_text))]
 pub fn write_fences<S: Sink>(alloc: Global, table: &FenceTable, out: &mut S) -> Result<(), RunError>
-    ensures writes { WritesText (fences_text table.now) (S.took out.old) (S.failures out.old) result (S.took out.new) (S.failures out.new) }
+    ensures writes { WritesText (fences_text table.now) (S.took out.old) (S.failures out.old) result
+        (S.took out.new) (S.failures out.new) }
     ensures memory { result ≡ Err RunError.OutOfMemory → S.took out.new ≡ S.took out.old }
 {
     let mut line = Line::new(alloc);

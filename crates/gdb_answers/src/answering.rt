@@ -35,7 +35,8 @@ pub fn answer_registers<R: Threads + Wait + Sync, K: Sink>(
     requires workers { AreWorkers look.workers }
     ensures stays { timeline.new ≡ timeline.old }
     ensures writes { (m : Running) → IsUntraced m timeline.old.start → OnOk result
-        (K.took out.new ≡ K.took out.old ++ packet_text (registers_answer look.point.moment (seen m look.point look.hart))) }
+        (K.took out.new ≡ K.took out.old ++ packet_text
+        (registers_answer look.point.moment (seen m look.point look.hart))) }
     ensures memory { result ≡ Err refusals.OutOfMemory → K.took out.new ≡ K.took out.old }
 {
     let Some(sight) = timeline.shown_at(rt, &look.point, look.hart, look.workers)? else {
@@ -63,7 +64,8 @@ pub fn answer_register<R: Threads + Wait + Sync, K: Sink>(
     requires workers { AreWorkers look.workers }
     ensures stays { timeline.new ≡ timeline.old }
     ensures writes { (m : Running) → IsUntraced m timeline.old.start → OnOk result
-        (K.took out.new ≡ K.took out.old ++ packet_text (register_answer number look.point.moment (seen m look.point look.hart))) }
+        (K.took out.new ≡ K.took out.old ++ packet_text
+        (register_answer number look.point.moment (seen m look.point look.hart))) }
     ensures memory { result ≡ Err refusals.OutOfMemory → K.took out.new ≡ K.took out.old }
 {
     let Some(sight) = timeline.shown_at(rt, &look.point, look.hart, look.workers)? else {
@@ -111,7 +113,8 @@ pub fn answer_memory<R: Threads + Wait + Sync, K: Sink>(
     requires workers { AreWorkers look.workers }
     ensures stays { timeline.new ≡ timeline.old }
     ensures writes { (m : Running) → IsUntraced m timeline.old.start → OnOk result
-        (K.took out.new ≡ K.took out.old ++ packet_text (memory_answer address count (seen m look.point look.hart))) }
+        (K.took out.new ≡ K.took out.old ++ packet_text
+        (memory_answer address count (seen m look.point look.hart))) }
     ensures memory { result ≡ Err refusals.OutOfMemory → K.took out.new ≡ K.took out.old }
 {
     let Some(sight) = timeline.shown_at(rt, &look.point, look.hart, look.workers)? else {
@@ -140,7 +143,8 @@ pub fn answer_note<R: Threads + Wait + Sync, K: Sink>(
     requires rounds { look.point.moment.rounds + 1 < 2 ^ 32 }
     ensures stays { timeline.new ≡ timeline.old }
     ensures writes { (m : Running) → IsUntraced m timeline.old.start → OnOk result
-        (K.took out.new ≡ K.took out.old ++ packet_text (note_answer (note_at m look.point look.hart))) }
+        (K.took out.new ≡ K.took out.old ++ packet_text
+        (note_answer (note_at m look.point look.hart))) }
     ensures memory { result ≡ Err refusals.OutOfMemory → K.took out.new ≡ K.took out.old }
 {
     match note_at(rt, alloc, timeline, look)? {

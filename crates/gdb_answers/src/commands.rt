@@ -44,7 +44,8 @@ pub fn answer_where<R: Threads + Wait + Sync, K: Sink>(
     requires workers { AreWorkers workers }
     requires rounds { point.moment.rounds + 1 < 2 ^ 32 }
     ensures stays { timeline.new ≡ timeline.old }
-    ensures writes { (m : Running) → IsUntraced m timeline.old.start → OnOk result (K.took out.new ≡ K.took out.old
+    ensures writes { (m : Running) → IsUntraced m timeline.old.start →
+        OnOk result (K.took out.new ≡ K.took out.old
         ++ packet_text (where_answer point.moment (seen m point point.moment.place.hart))) }
     ensures memory { result ≡ Err refusals.OutOfMemory → K.took out.new ≡ K.took out.old }
 {
@@ -67,7 +68,8 @@ fn say_where<K: Sink>(
     pc: u64,
     out: &mut K,
 ) -> Result<(), RunError>
-    ensures writes { WritesText (packet_text (encode_lower (where_line note.now count pc))) (K.took out.old)
+    ensures writes { WritesText (packet_text (encode_lower (where_line note.now count pc)))
+        (K.took out.old)
         (K.failures out.old) result (K.took out.new) (K.failures out.new) }
     ensures memory { result ≡ Err refusals.OutOfMemory → K.took out.new ≡ K.took out.old }
 {
@@ -122,7 +124,8 @@ fn hart_lines<R: Threads + Wait + Sync>(
     requires workers { AreWorkers look.workers }
     requires rounds { look.point.moment.rounds + 1 < 2 ^ 32 }
     ensures stays { timeline.new ≡ timeline.old }
-    ensures lines { (m : Running) → IsUntraced m timeline.old.start → IfOk result (λ text. text.items ≡
+    ensures lines { (m : Running) → IsUntraced m timeline.old.start →
+        IfOk result (λ text. text.items ≡
         hart_lines m look.point look.hart) }
     ensures refused { IfErr result (λ e. e ≡ refusals.OutOfMemory) }
 {

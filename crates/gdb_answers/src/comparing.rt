@@ -35,7 +35,8 @@ pub fn answer_checksum<R: Threads + Wait + Sync, K: Sink>(
     requires workers { AreWorkers look.workers }
     ensures stays { timeline.new ≡ timeline.old }
     ensures writes { (m : Running) → IsUntraced m timeline.old.start → OnOk result
-        (K.took out.new ≡ K.took out.old ++ packet_text (checksum_answer address count (seen m look.point look.hart))) }
+        (K.took out.new ≡ K.took out.old ++ packet_text
+        (checksum_answer address count (seen m look.point look.hart))) }
     ensures memory { result ≡ Err refusals.OutOfMemory → K.took out.new ≡ K.took out.old }
 {
     let Some(sight) = timeline.shown_at(rt, &look.point, look.hart, look.workers)? else {

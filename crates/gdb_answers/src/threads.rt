@@ -34,7 +34,8 @@ pub fn answer_threads<R: Threads + Wait + Sync, K: Sink>(
     requires workers { AreWorkers look.workers }
     requires rounds { look.point.moment.rounds + 1 < 2 ^ 32 }
     ensures stays { timeline.new ≡ timeline.old }
-    ensures writes { (m : Running) → IsUntraced m timeline.old.start → OnOk result (K.took out.new ≡ K.took out.old
+    ensures writes { (m : Running) → IsUntraced m timeline.old.start →
+        OnOk result (K.took out.new ≡ K.took out.old
         ++ packet_text (thread_list_answer m look.point look.hart offset count)) }
     ensures memory { result ≡ Err refusals.OutOfMemory → K.took out.new ≡ K.took out.old }
 {
@@ -59,7 +60,8 @@ fn thread_list<R: Threads + Wait + Sync>(
     requires workers { AreWorkers look.workers }
     requires rounds { look.point.moment.rounds + 1 < 2 ^ 32 }
     ensures stays { timeline.new ≡ timeline.old }
-    ensures list { (m : Running) → IsUntraced m timeline.old.start → IfOk result (λ text. text.items ≡
+    ensures list { (m : Running) → IsUntraced m timeline.old.start →
+        IfOk result (λ text. text.items ≡
         thread_list_begin ++ thread_entries m look.point look.hart ++ thread_list_end) }
     ensures refused { IfErr result (λ e. e ≡ refusals.OutOfMemory) }
 {

@@ -48,8 +48,10 @@ pub fn answer_event<R: Threads + Wait + Sync, K: Sink>(
     requires rounds { point.moment.rounds + 1 < 2 ^ 32 }
     requires run { (m : Running) × IsUntraced m timeline.old.start }
     ensures stays { timeline.new ≡ timeline.old }
-    ensures writes { (m : Running) → IsUntraced m timeline.old.start → OnOk result (K.took out.new ≡ K.took out.old
-        ++ packet_text (event_answer timeline.old.rounds m point (seen m point point.moment.place.hart))) }
+    ensures writes { (m : Running) → IsUntraced m timeline.old.start →
+        OnOk result (K.took out.new ≡ K.took out.old
+        ++ packet_text (event_answer timeline.old.rounds m point
+        (seen m point point.moment.place.hart))) }
     ensures memory { result ≡ Err refusals.OutOfMemory → K.took out.new ≡ K.took out.old }
 {
     match event_words(rt, alloc, timeline, point, workers)? {
@@ -71,7 +73,8 @@ pub(crate) fn event_packet<R: Threads + Wait + Sync>(
     requires rounds { point.moment.rounds + 1 < 2 ^ 32 }
     requires run { (m : Running) × IsUntraced m timeline.old.start }
     ensures stays { timeline.new ≡ timeline.old }
-    ensures packet { (m : Running) → IsUntraced m timeline.old.start → IfOk result (λ text. text.items
+    ensures packet { (m : Running) → IsUntraced m timeline.old.start →
+        IfOk result (λ text. text.items
         ≡ event_packet timeline.old.rounds m point (seen m point point.moment.place.hart)) }
     ensures refused { IfErr result (λ e. e ≡ refusals.OutOfMemory) }
 {
@@ -97,7 +100,8 @@ fn event_words<R: Threads + Wait + Sync>(
     requires rounds { point.moment.rounds + 1 < 2 ^ 32 }
     requires run { (m : Running) × IsUntraced m timeline.old.start }
     ensures stays { timeline.new ≡ timeline.old }
-    ensures words { (m : Running) → IsUntraced m timeline.old.start → IfOk result (λ w. option_map (λ v. v.items) w
+    ensures words { (m : Running) → IsUntraced m timeline.old.start →
+        IfOk result (λ w. option_map (λ v. v.items) w
         ≡ event_words timeline.old.rounds m point (seen m point point.moment.place.hart)) }
     ensures refused { IfErr result (λ e. e ≡ refusals.OutOfMemory) }
 {

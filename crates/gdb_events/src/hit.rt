@@ -41,8 +41,10 @@ pub fn answer_hit<R: Threads + Wait + Sync, K: Sink>(
     requires run { (m : Running) × IsUntraced m timeline.old.start }
     requires hart { look.hart + 1 < 2 ^ 32 }
     ensures stays { timeline.new ≡ timeline.old }
-    ensures writes { (m : Running) → IsUntraced m timeline.old.start → OnOk result (K.took out.new ≡ K.took out.old
-        ++ (event_packet timeline.old.rounds m look.point (seen m look.point look.point.moment.place.hart)
+    ensures writes { (m : Running) → IsUntraced m timeline.old.start →
+        OnOk result (K.took out.new ≡ K.took out.old
+        ++ (event_packet timeline.old.rounds m look.point
+        (seen m look.point look.point.moment.place.hart)
         ++ packet_text (stop_answer reason look.hart (seen m look.point look.hart)))) }
     ensures memory { result ≡ Err refusals.OutOfMemory → K.took out.new ≡ K.took out.old }
 {

@@ -34,7 +34,8 @@ pub fn answer_output<R: Threads + Wait + Sync, K: Sink>(
     requires workers { AreWorkers workers }
     ensures stays { start.new ≡ start.old }
     ensures writes { (m : Running) → IsUntraced m start.old → OnOk result
-        (K.took out.new ≡ K.took out.old ++ packet_text (output_answer (after_rounds rounds m).state.console.output)) }
+        (K.took out.new ≡ K.took out.old ++ packet_text
+        (output_answer (after_rounds rounds m).state.console.output)) }
     ensures memory { result ≡ Err refusals.OutOfMemory → K.took out.new ≡ K.took out.old }
 {
     let mut machine = start.share()?;
@@ -55,7 +56,8 @@ fn say_after<R: Threads + Wait + Sync, K: Sink>(
     requires rounds { machine.old.rounds + rounds < 2 ^ 32 }
     requires workers { AreWorkers workers }
     ensures writes { (m : Running) → IsUntraced m machine.old → OnOk result
-        (K.took out.new ≡ K.took out.old ++ packet_text (output_answer (after_rounds rounds m).state.console.output)) }
+        (K.took out.new ≡ K.took out.old ++ packet_text
+        (output_answer (after_rounds rounds m).state.console.output)) }
     ensures memory { result ≡ Err refusals.OutOfMemory → K.took out.new ≡ K.took out.old }
 {
     machine.run(rt, rounds, workers)?;

@@ -53,7 +53,8 @@ pub fn answer_reservations<R: Threads + Wait + Sync, K: Sink>(
     requires start { start.old ≡ timeline.old.start }
     requires run { (m : Running) × IsUntraced m start.old }
     ensures stays { (timeline.new ≡ timeline.old) × (start.new ≡ start.old) }
-    ensures writes { (m : Running) → IsUntraced m timeline.old.start → OnOk result (K.took out.new ≡ K.took out.old
+    ensures writes { (m : Running) → IsUntraced m timeline.old.start →
+        OnOk result (K.took out.new ≡ K.took out.old
         ++ packet_text (reservations_answer m point harts (seen m point point.moment.place.hart))) }
     ensures memory { result ≡ Err refusals.OutOfMemory → K.took out.new ≡ K.took out.old }
 {
@@ -138,7 +139,8 @@ fn note_seen<R: Threads + Wait + Sync>(
     requires workers { AreWorkers workers }
     requires few { length reservations.old.items < 2 ^ 32 }
     ensures count { OnOk result (length reservations.new.items ≡ length reservations.old.items) }
-    ensures tied { (m : Running) → IsUntraced m machine.old → (t : List Event) → Tied reservations.old.items t →
+    ensures tied { (m : Running) → IsUntraced m machine.old → (t : List Event) →
+        Tied reservations.old.items t →
         OnOk result (Tied reservations.new.items (t ++ seen_events moment done (round_events m))) }
     ensures refused { IfErr result (λ e. e ≡ refusals.OutOfMemory) }
 {
@@ -185,7 +187,8 @@ fn say_reservations<K: Sink>(
     out: &mut K,
 ) -> Result<(), RunError>
     requires few { length reservations.now < 2 ^ 32 }
-    ensures writes { (t : List Event) → Tied reservations.now t → OnOk result (K.took out.new ≡ K.took out.old
+    ensures writes { (t : List Event) → Tied reservations.now t →
+        OnOk result (K.took out.new ≡ K.took out.old
         ++ packet_text (encode_lower (reserved_text t (length reservations.now)))) }
     ensures memory { result ≡ Err refusals.OutOfMemory → K.took out.new ≡ K.took out.old }
 {

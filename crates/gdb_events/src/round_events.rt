@@ -52,7 +52,8 @@ pub(crate) fn next_events<R: Threads + Wait + Sync>(
     requires workers { AreWorkers workers }
     ensures runs { OnOk result (IsAfter 1 machine.old machine.new) }
     ensures counted { OnOk result (machine.new.rounds ≡ machine.old.rounds + 1) }
-    ensures events { (m : Running) → IsUntraced m machine.old → IfOk result (λ v. v.items ≡ round_events m) }
+    ensures events { (m : Running) → IsUntraced m machine.old →
+        IfOk result (λ v. v.items ≡ round_events m) }
     ensures trace { (m : Running) → IsUntraced m machine.old → OnOk result
         ((after_rounds 1 m).state.trace ≡ m.state.trace ++ round_events m) }
     ensures refused { IfErr result (λ e. e ≡ refusals.OutOfMemory) }

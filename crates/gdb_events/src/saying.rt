@@ -20,7 +20,8 @@ pub(crate) fn say_or<K: Sink>(
     none: &[u8],
     out: &mut K,
 ) -> Result<(), RunError>
-    ensures writes { WritesText (packet_text (encode_lower (text_or none.now text.now))) (K.took out.old)
+    ensures writes { WritesText (packet_text (encode_lower (text_or none.now text.now)))
+        (K.took out.old)
         (K.failures out.old) result (K.took out.new) (K.failures out.new) }
     ensures memory { result ≡ Err refusals.OutOfMemory → K.took out.new ≡ K.took out.old }
 {

@@ -35,7 +35,8 @@ pub fn answer_stop<R: Threads + Wait + Sync, K: Sink>(
     requires hart { look.hart + 1 < 2 ^ 32 }
     ensures stays { timeline.new ≡ timeline.old }
     ensures writes { (m : Running) → IsUntraced m timeline.old.start → OnOk result
-        (K.took out.new ≡ K.took out.old ++ packet_text (stop_answer reason look.hart (seen m look.point look.hart))) }
+        (K.took out.new ≡ K.took out.old ++ packet_text
+        (stop_answer reason look.hart (seen m look.point look.hart))) }
     ensures memory { result ≡ Err refusals.OutOfMemory → K.took out.new ≡ K.took out.old }
 {
     let packet = stop_packet(rt, alloc, timeline, look, reason)?;
@@ -54,7 +55,8 @@ pub(crate) fn stop_packet<R: Threads + Wait + Sync>(
     requires workers { AreWorkers look.workers }
     requires hart { look.hart + 1 < 2 ^ 32 }
     ensures stays { timeline.new ≡ timeline.old }
-    ensures packet { (m : Running) → IsUntraced m timeline.old.start → IfOk result (λ text. text.items
+    ensures packet { (m : Running) → IsUntraced m timeline.old.start →
+        IfOk result (λ text. text.items
         ≡ packet_text (stop_answer reason look.hart (seen m look.point look.hart))) }
     ensures refused { IfErr result (λ e. e ≡ refusals.OutOfMemory) }
 {

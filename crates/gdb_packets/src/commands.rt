@@ -63,7 +63,8 @@ fn goto_of(text: &[u8]) -> Command
 
 /// A place of a round, behind the round's number.
 fn place_of(round: u64, text: &[u8]) -> Command
-    ensures { result ≡ by_rest (behind_spelled (codes " ") text.now) (λ r. hart_by round (spelled_number r)) }
+    ensures { result ≡ by_rest (behind_spelled (codes " ") text.now) (λ r.
+        hart_by round (spelled_number r)) }
 {
     let Some(rest) = behind_spelled(b" ", text) else {
         return Command::Unknown;

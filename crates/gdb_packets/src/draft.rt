@@ -82,14 +82,16 @@ impl Draft {
 
     /// What the packet tells whose data this is, with the two digits behind it.
     pub(crate) fn end(self, alloc: Global, high: u8, low: u8) -> Result<Item, OutOfMemory>
-        ensures { (bs : List ℕ) → IsDraft bs self → IfOk result (λ x. told_in x ≡ told_of bs high low) }
+        ensures { (bs : List ℕ) → IsDraft bs self →
+            IfOk result (λ x. told_in x ≡ told_of bs high low) }
     {
         self.item(alloc, high, low)
     }
 
     /// The same.
     fn item(&self, alloc: Global, high: u8, low: u8) -> Result<Item, OutOfMemory>
-        ensures { (bs : List ℕ) → IsDraft bs self.now → IfOk result (λ x. told_in x ≡ told_of bs high low) }
+        ensures { (bs : List ℕ) → IsDraft bs self.now →
+            IfOk result (λ x. told_in x ≡ told_of bs high low) }
     {
         if !self.is_sum(high, low) {
             return Ok(Item::Spoilt);

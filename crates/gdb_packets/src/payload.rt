@@ -62,9 +62,11 @@ fn repeat_last(payload: &mut Vec<u8>, count: u8) -> Result<bool, OutOfMemory>
 /// stands for no payload.
 fn take_unit<'a>(payload: &mut Vec<u8>, bytes: &'a [u8]) -> Result<Option<&'a [u8]>, OutOfMemory>
     requires { 0 < length bytes.now }
-    ensures goes_on { IfOk result (λ rest. MatchOption rest (read_on payload.old.items bytes.now ≡ None)
+    ensures goes_on { IfOk result (λ rest.
+        MatchOption rest (read_on payload.old.items bytes.now ≡ None)
         (λ more. read_on payload.new.items more.now ≡ read_on payload.old.items bytes.now)) }
-    ensures shorter { IfOk result (λ rest. IfSome rest (λ more. length more.now < length bytes.now)) }
+    ensures shorter { IfOk result (λ rest.
+        IfSome rest (λ more. length more.now < length bytes.now)) }
 {
     let Some((first, others)) = bytes.split_first() else {
         return Ok(None);

@@ -40,7 +40,8 @@ impl Reader {
 
     /// The next byte, of those that are held or else of the source; none at the end of the source.
     pub(crate) fn byte<S: Source>(&mut self, src: &mut S) -> Result<Option<u8>, RunError>
-        ensures ok { IfOk result (λ x. GoesOn (S.gave src.old) self.old (S.gave src.new) self.new (option_to_list x)) }
+        ensures ok { IfOk result (λ x.
+            GoesOn (S.gave src.old) self.old (S.gave src.new) self.new (option_to_list x)) }
         ensures end { IfOk result (λ x. IfNone x (self.new ≡ [])) }
         ensures err { OnErr result (result ≡ Err refusals.SourceFailed) }
     {

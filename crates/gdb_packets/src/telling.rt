@@ -20,9 +20,12 @@ impl Reader {
     /// `OutOfMemory` where a packet found no memory: it was read, and the next call goes on behind it. `SourceFailed` where the
     /// source failed: what was read of a packet is gone.
     pub fn next<S: Source>(&mut self, alloc: Global, src: &mut S) -> Result<Option<Item>, RunError>
-        ensures told { IfOk result (λ x. Reads next_of (S.gave src.old) self.old (S.gave src.new) self.new x) }
-        ensures lost { result ≡ Err refusals.OutOfMemory → Loses next_of (S.gave src.old) self.old (S.gave src.new) self.new }
-        ensures errors { IfErr result (λ e. (e ≡ refusals.OutOfMemory) ⊎ (e ≡ refusals.SourceFailed)) }
+        ensures told { IfOk result (λ x.
+            Reads next_of (S.gave src.old) self.old (S.gave src.new) self.new x) }
+        ensures lost { result ≡ Err refusals.OutOfMemory →
+            Loses next_of (S.gave src.old) self.old (S.gave src.new) self.new }
+        ensures errors { IfErr result (λ e. (e ≡ refusals.OutOfMemory) ⊎
+            (e ≡ refusals.SourceFailed)) }
     {
         for _i in 0..u64::MAX {
             let byte = match self.byte(src)? {
@@ -43,9 +46,12 @@ impl Reader {
 
     /// The packet whose `$` was read.
     fn frame<S: Source>(&mut self, alloc: Global, src: &mut S) -> Result<Option<Item>, RunError>
-        ensures told { IfOk result (λ x. Reads framed (S.gave src.old) self.old (S.gave src.new) self.new x) }
-        ensures lost { result ≡ Err refusals.OutOfMemory → Loses framed (S.gave src.old) self.old (S.gave src.new) self.new }
-        ensures errors { IfErr result (λ e. (e ≡ refusals.OutOfMemory) ⊎ (e ≡ refusals.SourceFailed)) }
+        ensures told { IfOk result (λ x.
+            Reads framed (S.gave src.old) self.old (S.gave src.new) self.new x) }
+        ensures lost { result ≡ Err refusals.OutOfMemory →
+            Loses framed (S.gave src.old) self.old (S.gave src.new) self.new }
+        ensures errors { IfErr result (λ e. (e ≡ refusals.OutOfMemory) ⊎
+            (e ≡ refusals.SourceFailed)) }
     {
         let mut draft = Draft::new(alloc);
         for _i in 0..u64::MAX {
@@ -72,7 +78,8 @@ impl Reader {
             (λ x. Reads (closed_by bs) (S.gave src.old) self.old (S.gave src.new) self.new x) }
         ensures lost { (bs : List ℕ) → result ≡ Err refusals.OutOfMemory →
             Loses (closed_by bs) (S.gave src.old) self.old (S.gave src.new) self.new }
-        ensures errors { IfErr result (λ e. (e ≡ refusals.OutOfMemory) ⊎ (e ≡ refusals.SourceFailed)) }
+        ensures errors { IfErr result (λ e. (e ≡ refusals.OutOfMemory) ⊎
+            (e ≡ refusals.SourceFailed)) }
     {
         let high = match self.byte(src)? {
             Some(high) => high,

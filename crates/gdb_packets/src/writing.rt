@@ -72,7 +72,8 @@ pub fn packet_text(alloc: Global, payload: &[u8]) -> Result<Vec<u8>, OutOfMemory
 ///
 /// `OutOfMemory`: nothing is written then. `SinkFailed`: a beginning of the packet is.
 pub fn write_packet<K: Sink>(alloc: Global, payload: &[u8], out: &mut K) -> Result<(), RunError>
-    ensures writes { WritesText (packet_text payload.now) (K.took out.old) (K.failures out.old) result
+    ensures writes { WritesText (packet_text payload.now) (K.took out.old) (K.failures out.old)
+        result
         (K.took out.new) (K.failures out.new) }
     ensures memory { result ≡ Err refusals.OutOfMemory → K.took out.new ≡ K.took out.old }
 {
@@ -88,7 +89,8 @@ pub fn write_packet<K: Sink>(alloc: Global, payload: &[u8], out: &mut K) -> Resu
 ///
 /// `SinkFailed`: nothing is said then.
 pub fn acknowledge<K: Sink>(item: &Item, out: &mut K) -> Result<(), RunError>
-    ensures writes { WritesText (answer_to (told_in item.now)) (K.took out.old) (K.failures out.old) result
+    ensures writes { WritesText (answer_to (told_in item.now)) (K.took out.old) (K.failures out.old)
+        result
         (K.took out.new) (K.failures out.new) }
 {
     match item {

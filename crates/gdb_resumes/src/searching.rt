@@ -99,7 +99,8 @@ impl Search {
         requires ready { IsReady run.old session.now.standing }
         requires search { IsUnderWay run.old (state_of session.now) self }
         ensures stays { run.new ≡ run.old }
-        ensures searches { OfRun run.old (λ r. IfOk result (λ x. SearchesTo r (state_of session.now) self.reach.way x)) }
+        ensures searches { OfRun run.old (λ r.
+            IfOk result (λ x. SearchesTo r (state_of session.now) self.reach.way x)) }
         ensures searched { IfOk result (λ x. IsSearched run.old (state_of session.now) x) }
         ensures refused { IfErr result (λ e. e ≡ refusals.OutOfMemory) }
     {
@@ -123,7 +124,8 @@ impl Search {
         requires within { reach.rounds ≤ run.now.timeline.rounds }
         requires way { reach.way ≡ self.reach.way }
         ensures { result ≡ (if rounds_left reach.way run.now.timeline.rounds reach.rounds == 0
-            then Stands (end_of run.now.timeline.rounds standing reach.way) else GoesOn (record { reach = reach; telling = self.telling })) }
+            then Stands (end_of run.now.timeline.rounds standing reach.way) else GoesOn
+            (record { reach = reach; telling = self.telling })) }
     {
         if reach.left(run) == 0 {
             return Searched::Stands(end_of(run, standing, reach.way));
@@ -162,7 +164,9 @@ impl Reach {
         requires few { run.old.timeline.rounds + 1 < 2 ^ 32 }
         requires within { self.rounds ≤ run.old.timeline.rounds }
         ensures stays { run.new ≡ run.old }
-        ensures passed { OfRun run.old (λ r. IfOk result (λ x. IsPassed r self.way self.rounds x.1.rounds telling.now here.now x.0)) }
+        ensures passed { OfRun run.old (λ r.
+            IfOk result (λ x.
+            IsPassed r self.way self.rounds x.1.rounds telling.now here.now x.0)) }
         ensures way { IfOk result (λ x. x.1.way ≡ self.way) }
         ensures within { IfOk result (λ x. x.1.rounds ≤ run.old.timeline.rounds) }
         ensures refused { IfErr result (λ e. e ≡ refusals.OutOfMemory) }
@@ -217,7 +221,10 @@ impl Reach {
         requires within { self.rounds ≤ run.old.timeline.rounds }
         requires left { count ≤ rounds_left self.way run.old.timeline.rounds self.rounds }
         ensures stays { run.new ≡ run.old }
-        ensures passed { OfRun run.old (λ r. IfOk result (λ x. IsPassed r self.way self.rounds (rounds_at self.way self.rounds count) telling.now here.now x)) }
+        ensures passed { OfRun run.old (λ r.
+            IfOk result (λ x.
+            IsPassed r self.way self.rounds (rounds_at self.way self.rounds count) telling.now
+            here.now x)) }
         ensures refused { IfErr result (λ e. e ≡ refusals.OutOfMemory) }
     {
         let rounds = self.rounds;
@@ -271,7 +278,8 @@ fn look_on<R: Threads + Wait + Sync>(
     requires workers { AreWorkers run.old.workers }
     requires within { rounds + count ≤ run.old.timeline.rounds }
     ensures stays { run.new ≡ run.old }
-    ensures passed { OfRun run.old (λ r. IfOk result (λ x. IsPassed r On rounds (rounds + count) telling.now here.now x)) }
+    ensures passed { OfRun run.old (λ r. IfOk result (λ x.
+        IsPassed r On rounds (rounds + count) telling.now here.now x)) }
     ensures refused { IfErr result (λ e. e ≡ refusals.OutOfMemory) }
 {
     let workers = run.workers;
@@ -292,7 +300,8 @@ fn look_back<R: Threads + Wait + Sync>(
     requires within { rounds ≤ run.old.timeline.rounds }
     requires left { count ≤ rounds }
     ensures stays { run.new ≡ run.old }
-    ensures passed { OfRun run.old (λ r. IfOk result (λ x. IsPassed r Back rounds (rounds - count) telling.now here.now x)) }
+    ensures passed { OfRun run.old (λ r. IfOk result (λ x.
+        IsPassed r Back rounds (rounds - count) telling.now here.now x)) }
     ensures refused { IfErr result (λ e. e ≡ refusals.OutOfMemory) }
 {
     let workers = run.workers;

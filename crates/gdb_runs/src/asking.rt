@@ -86,7 +86,8 @@ pub fn find<R: Threads + Wait + Sync>(
     requires run { (m : Running) × IsUntraced m run.old.start }
     requires harts { run.old.harts ≡ length run.old.start.harts }
     ensures stays { run.new ≡ run.old }
-    ensures finds { OfRun run.old (λ r. (w : Wanted) → AsksFor w telling → IfOk result (λ x. Finds r way w from.now x)) }
+    ensures finds { OfRun run.old (λ r. (w : Wanted) → AsksFor w telling →
+        IfOk result (λ x. Finds r way w from.now x)) }
     ensures within { IfOk result (λ x. IfSome x (λ told. IsWithin run.old told.point)) }
     ensures refused { IfErr result (λ e. e ≡ refusals.OutOfMemory) }
 {
@@ -106,7 +107,8 @@ fn nearest<R: Threads + Wait + Sync>(
     requires within { from.now.moment.rounds ≤ run.old.timeline.rounds }
     requires workers { AreWorkers run.old.workers }
     ensures stays { run.new ≡ run.old }
-    ensures nearest { OfRun run.old (λ r. IfOk result (λ x. x ≡ nearest_of r way telling.now from.now)) }
+    ensures nearest { OfRun run.old (λ r. IfOk result (λ x.
+        x ≡ nearest_of r way telling.now from.now)) }
     ensures refused { IfErr result (λ e. e ≡ refusals.OutOfMemory) }
 {
     match way {

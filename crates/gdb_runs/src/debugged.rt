@@ -72,7 +72,8 @@ impl Debugged {
         ensures harts { IfOk result (λ d. d.harts ≡ length machine.harts) }
         ensures workers { IfOk result (λ d. d.workers ≡ workers) }
         ensures machine { IfOk result (λ d. d.start ≡ machine) }
-        ensures image { IfOk result (λ d. image_of d ≡ (if hands_image then Some image.items else None)) }
+        ensures image { IfOk result (λ d. image_of d
+            ≡ (if hands_image then Some image.items else None)) }
         ensures refused { IfErr result (λ e. e ≡ refusals.OutOfMemory) }
     {
         // At most 64, as many as the plan says.
@@ -116,7 +117,8 @@ impl Debugged {
         requires within { point.now.moment.rounds ≤ self.old.timeline.rounds }
         requires workers { AreWorkers self.old.workers }
         ensures stays { self.new ≡ self.old }
-        ensures hart { OfRun self.old (λ r. IfOk result (λ h. h ≡ hart_seen r.run point.now number)) }
+        ensures hart { OfRun self.old (λ r.
+            IfOk result (λ h. h ≡ hart_seen r.run point.now number)) }
         ensures refused { IfErr result (λ e. e ≡ refusals.OutOfMemory) }
     {
         match self.timeline.shown_at(rt, point, number, self.workers)? {

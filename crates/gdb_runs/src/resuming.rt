@@ -43,7 +43,8 @@ pub fn tell<R: Threads + Wait + Sync>(
     requires ready { IsReady run.old session.now.standing }
     requires within { IsWithin run.old told.point }
     ensures stays { run.new ≡ run.old }
-    ensures standing { OfRun run.old (λ r. IfOk result (λ t. t ≡ told_at r (state_of session.now) told)) }
+    ensures standing { OfRun run.old (λ r.
+        IfOk result (λ t. t ≡ told_at r (state_of session.now) told)) }
     ensures ready { IfOk result (λ t. IsReady run.old t) }
     ensures refused { IfErr result (λ e. e ≡ refusals.OutOfMemory) }
 {

@@ -37,7 +37,9 @@ pub fn answer<R: Threads + Wait + Sync, K: Sink>(
     requires ready { IsReady run.old session.old.standing }
     ensures stays { run.new ≡ run.old }
     ensures ready { IsReady run.old session.new.standing }
-    ensures answers { OfRun run.old (λ r. OnOk result (Answered r (state_of session.old) request (K.took out.old) (K.took out.new) (state_of session.new))) }
+    ensures answers { OfRun run.old (λ r.
+        OnOk result (Answered r (state_of session.old) request (K.took out.old) (K.took out.new)
+        (state_of session.new))) }
     ensures refused { result ≡ Err refusals.OutOfMemory →
         (K.took out.new ≡ K.took out.old) × (state_of session.new ≡ state_of session.old) }
 {
@@ -65,7 +67,9 @@ fn change_stops<K: Sink>(
     out: &mut K,
 ) -> Result<(), RunError>
     ensures standing { session.new.standing ≡ session.old.standing }
-    ensures answers { (r : Recorded) → OnOk result (Answered r (state_of session.old) request (K.took out.old) (K.took out.new) (state_of session.new)) }
+    ensures answers { (r : Recorded) →
+        OnOk result (Answered r (state_of session.old) request (K.took out.old) (K.took out.new)
+        (state_of session.new)) }
     ensures refused { result ≡ Err refusals.OutOfMemory →
         (K.took out.new ≡ K.took out.old) × (state_of session.new ≡ state_of session.old) }
 {
@@ -101,7 +105,8 @@ fn answer_command<R: Threads + Wait + Sync, K: Sink>(
     requires ready { IsReady run.old session.old.standing }
     ensures stays { run.new ≡ run.old }
     ensures ready { IsReady run.old session.new.standing }
-    ensures answers { OfRun run.old (λ r. OnOk result (Answered r (state_of session.old) (requests.Command command)
+    ensures answers { OfRun run.old (λ r.
+        OnOk result (Answered r (state_of session.old) (requests.Command command)
         (K.took out.old) (K.took out.new) (state_of session.new))) }
     ensures refused { result ≡ Err refusals.OutOfMemory →
         (K.took out.new ≡ K.took out.old) × (state_of session.new ≡ state_of session.old) }
@@ -132,7 +137,8 @@ fn resume<R: Threads + Wait + Sync, K: Sink>(
     requires ready { IsReady run.old session.old.standing }
     ensures stays { run.new ≡ run.old }
     ensures ready { IsReady run.old session.new.standing }
-    ensures resumes { OfRun run.old (λ r. OnOk result ((written : List ℕ) × Resumes r (state_of session.old) request written (state_of session.new)
+    ensures resumes { OfRun run.old (λ r. OnOk result ((written : List ℕ) ×
+        Resumes r (state_of session.old) request written (state_of session.new)
         × (K.took out.new ≡ K.took out.old ++ written))) }
     ensures refused { result ≡ Err refusals.OutOfMemory →
         (K.took out.new ≡ K.took out.old) × (state_of session.new ≡ state_of session.old) }
@@ -158,7 +164,8 @@ fn standing_after<R: Threads + Wait + Sync>(
     requires ready { IsReady run.old session.old.standing }
     ensures stays { run.new ≡ run.old }
     ensures session { session.new ≡ session.old }
-    ensures standing { OfRun run.old (λ r. IfOk result (λ x. Moves r (state_of session.old) request x)) }
+    ensures standing { OfRun run.old (λ r.
+        IfOk result (λ x. Moves r (state_of session.old) request x)) }
     ensures ready { IfOk result (λ x. IfSome x (λ t. IsReady run.old t)) }
     ensures refused { IfErr result (λ e. e ≡ refusals.OutOfMemory) }
 {
@@ -192,7 +199,8 @@ fn select_general<K: Sink>(
 ) -> Result<(), RunError>
     requires ready { IsReady run.now session.old.standing }
     ensures ready { IsReady run.now session.new.standing }
-    ensures answers { OfRun run.now (λ r. OnOk result (Answered r (state_of session.old) (requests.SelectGeneral thread)
+    ensures answers { OfRun run.now (λ r.
+        OnOk result (Answered r (state_of session.old) (requests.SelectGeneral thread)
         (K.took out.old) (K.took out.new) (state_of session.new))) }
     ensures refused { result ≡ Err refusals.OutOfMemory →
         (K.took out.new ≡ K.took out.old) × (state_of session.new ≡ state_of session.old) }
@@ -218,7 +226,8 @@ fn select_moving<K: Sink>(
 ) -> Result<(), RunError>
     requires ready { IsReady run.now session.old.standing }
     ensures ready { IsReady run.now session.new.standing }
-    ensures answers { OfRun run.now (λ r. OnOk result (Answered r (state_of session.old) (requests.SelectMoving thread)
+    ensures answers { OfRun run.now (λ r.
+        OnOk result (Answered r (state_of session.old) (requests.SelectMoving thread)
         (K.took out.old) (K.took out.new) (state_of session.new))) }
     ensures refused { result ≡ Err refusals.OutOfMemory →
         (K.took out.new ≡ K.took out.old) × (state_of session.new ≡ state_of session.old) }

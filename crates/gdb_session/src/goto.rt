@@ -48,7 +48,8 @@ pub(crate) fn go_to<R: Threads + Wait + Sync, K: Sink>(
     requires goes { is_goto command ≡ true }
     ensures stays { run.new ≡ run.old }
     ensures ready { IsReady run.old session.new.standing }
-    ensures answers { OfRun run.old (λ r. OnOk result (Answered r (state_of session.old) (requests.Command command)
+    ensures answers { OfRun run.old (λ r.
+        OnOk result (Answered r (state_of session.old) (requests.Command command)
         (K.took out.old) (K.took out.new) (state_of session.new))) }
     ensures refused { result ≡ Err refusals.OutOfMemory →
         (K.took out.new ≡ K.took out.old) × (state_of session.new ≡ state_of session.old) }
@@ -91,7 +92,8 @@ fn say_goal<K: Sink>(
     out: &mut K,
 ) -> Result<(), RunError>
     ensures writes { OfRun run.now (λ r. OnOk result
-        (K.took out.new ≡ K.took out.old ++ packet_text (encode_lower (goal_text r standing goal)))) }
+        (K.took out.new ≡ K.took out.old ++ packet_text
+        (encode_lower (goal_text r standing goal)))) }
     ensures memory { result ≡ Err refusals.OutOfMemory → K.took out.new ≡ K.took out.old }
 {
     let here = standing.point.moment;
@@ -116,7 +118,8 @@ fn say_side<K: Sink>(
     is_ahead: bool,
     out: &mut K,
 ) -> Result<(), RunError>
-    ensures writes { WritesText (packet_text (encode_lower (side_text is_here is_ahead))) (K.took out.old)
+    ensures writes { WritesText (packet_text (encode_lower (side_text is_here is_ahead)))
+        (K.took out.old)
         (K.failures out.old) result (K.took out.new) (K.failures out.new) }
     ensures memory { result ≡ Err refusals.OutOfMemory → K.took out.new ≡ K.took out.old }
 {

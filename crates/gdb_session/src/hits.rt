@@ -30,7 +30,8 @@ pub(crate) fn set_hits<K: Sink>(
     requires ready { IsReady run.now session.old.standing }
     ensures ready { IsReady run.now session.new.standing }
     ensures session { OnOk result (state_of session.new ≡ with_hits (state_of session.old) on) }
-    ensures writes { OnOk result (K.took out.new ≡ K.took out.old ++ packet_text (encode_lower (hits_text on))) }
+    ensures writes { OnOk result (K.took out.new ≡ K.took out.old
+        ++ packet_text (encode_lower (hits_text on))) }
     ensures refused { result ≡ Err refusals.OutOfMemory →
         (K.took out.new ≡ K.took out.old) × (state_of session.new ≡ state_of session.old) }
 {

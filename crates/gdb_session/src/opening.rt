@@ -35,7 +35,8 @@ pub fn open(
     // Numbers out of range are refused first, then an image, and then a plan.
     ensures in_order { RefusedInOrder settings.now image.now result }
     // What is refused then is for a reason that stands, or for more rounds than can be looked at.
-    ensures errors { settings_fault settings.now ≡ None → IfErr result (λ e. IsReason settings.now image.now e ⊎
+    ensures errors { settings_fault settings.now ≡ None →
+        IfErr result (λ e. IsReason settings.now image.now e ⊎
         ((e ≡ refusals.RoundsExhausted) × (2 ^ 32 ≤ settings.now.rounds + 2))) }
 {
     let machine = prepare_untraced(alloc, image, input, settings)?;

@@ -36,7 +36,8 @@ pub(crate) fn reply_to<R: Threads + Wait + Sync, K: Sink>(
 ) -> Result<(), RunError>
     requires ready { IsReady run.old standing }
     ensures stays { run.new ≡ run.old }
-    ensures writes { OfRun run.old (λ r. OnOk result (Replied r standing request (K.took out.old) (K.took out.new))) }
+    ensures writes { OfRun run.old (λ r.
+        OnOk result (Replied r standing request (K.took out.old) (K.took out.new))) }
     ensures memory { result ≡ Err refusals.OutOfMemory → K.took out.new ≡ K.took out.old }
 {
     match fixed_reply(run.harts, run.image(), standing, request) {
@@ -56,7 +57,8 @@ fn reply_at<R: Threads + Wait + Sync, K: Sink>(
 ) -> Result<(), RunError>
     requires ready { IsReady run.old standing }
     ensures stays { run.new ≡ run.old }
-    ensures writes { OfRun run.old (λ r. OnOk result (Replied r standing request (K.took out.old) (K.took out.new))) }
+    ensures writes { OfRun run.old (λ r.
+        OnOk result (Replied r standing request (K.took out.old) (K.took out.new))) }
     ensures memory { result ≡ Err refusals.OutOfMemory → K.took out.new ≡ K.took out.old }
 {
     match request {
@@ -93,7 +95,8 @@ fn read_at<R: Threads + Wait + Sync, K: Sink>(
 ) -> Result<(), RunError>
     requires ready { IsReady run.old standing }
     ensures stays { run.new ≡ run.old }
-    ensures writes { OfRun run.old (λ r. OnOk result (Replied r standing request (K.took out.old) (K.took out.new))) }
+    ensures writes { OfRun run.old (λ r.
+        OnOk result (Replied r standing request (K.took out.old) (K.took out.new))) }
     ensures memory { result ≡ Err refusals.OutOfMemory → K.took out.new ≡ K.took out.old }
 {
     let look = look_of(standing, run.workers);
@@ -114,7 +117,8 @@ fn read_at<R: Threads + Wait + Sync, K: Sink>(
 
 /// What is looked at where the run stands.
 fn look_of(standing: Standing, workers: u32) -> Look
-    ensures { result ≡ record { point = standing.point; hart = standing.general; workers = workers } }
+    ensures { result ≡ record { point = standing.point; hart = standing.general;
+        workers = workers } }
 {
     Look {
         point: standing.point,
@@ -131,7 +135,9 @@ fn fixed_reply<'a>(
     request: Request,
 ) -> Option<Reply<'a>>
     requires general { standing.general + 1 < 2 ^ 32 }
-    ensures { IfSome result (λ reply. fixed_text harts (option_map (λ bytes. bytes.now) image.entry) standing request ≡ Some (payload_of reply)) }
+    ensures { IfSome result (λ reply.
+        fixed_text harts (option_map (λ bytes. bytes.now) image.entry) standing request
+        ≡ Some (payload_of reply)) }
 {
     let reply = match request {
         Request::Features => Reply::Features(image.is_some()),
@@ -157,7 +163,8 @@ fn fixed_reply<'a>(
 
 /// The reply to a request for the image's name.
 fn name_reply<'a>(image: Option<&'a [u8]>, offset: u64, count: u64) -> Reply<'a>
-    ensures { payload_of result ≡ name_answer (option_map (λ bytes. bytes.now) image.entry) offset count }
+    ensures { payload_of result ≡ name_answer (option_map (λ bytes. bytes.now) image.entry) offset
+        count }
 {
     match image {
         Some(_) => Reply::Part(Window {
@@ -204,7 +211,9 @@ fn say_command<R: Threads + Wait + Sync, K: Sink>(
 ) -> Result<(), RunError>
     requires ready { IsReady run.old standing }
     ensures stays { run.new ≡ run.old }
-    ensures writes { OfRun run.old (λ r. OnOk result (K.took out.new ≡ K.took out.old ++ packet_text (command_text r standing command))) }
+    ensures writes { OfRun run.old (λ r.
+        OnOk result (K.took out.new ≡ K.took out.old
+        ++ packet_text (command_text r standing command))) }
     ensures memory { result ≡ Err refusals.OutOfMemory → K.took out.new ≡ K.took out.old }
 {
     let point = standing.point;
@@ -256,7 +265,8 @@ pub(crate) fn say_where<R: Threads + Wait + Sync, K: Sink>(
 ) -> Result<(), RunError>
     requires ready { IsReady run.old standing }
     ensures stays { run.new ≡ run.old }
-    ensures writes { OfRun run.old (λ r. OnOk result (K.took out.new ≡ K.took out.old ++ packet_text (stands_text r standing))) }
+    ensures writes { OfRun run.old (λ r.
+        OnOk result (K.took out.new ≡ K.took out.old ++ packet_text (stands_text r standing))) }
     ensures memory { result ≡ Err refusals.OutOfMemory → K.took out.new ≡ K.took out.old }
 {
     let look = Look {
@@ -276,7 +286,8 @@ pub(crate) fn say_stop<R: Threads + Wait + Sync, K: Sink>(
 ) -> Result<(), RunError>
     requires ready { IsReady run.old standing }
     ensures stays { run.new ≡ run.old }
-    ensures writes { OfRun run.old (λ r. OnOk result (K.took out.new ≡ K.took out.old ++ stands_packets r standing)) }
+    ensures writes { OfRun run.old (λ r.
+        OnOk result (K.took out.new ≡ K.took out.old ++ stands_packets r standing)) }
     ensures memory { result ≡ Err refusals.OutOfMemory → K.took out.new ≡ K.took out.old }
 {
     if !(standing.hits && is_hit(standing.reason)) {
@@ -310,7 +321,9 @@ fn say_note<R: Threads + Wait + Sync, K: Sink>(
 ) -> Result<(), RunError>
     requires ready { IsReady run.old standing }
     ensures stays { run.new ≡ run.old }
-    ensures writes { OfRun run.old (λ r. OnOk result (K.took out.new ≡ K.took out.old ++ packet_text (note_text_of r standing (hart_of_thread run.old.harts thread)))) }
+    ensures writes { OfRun run.old (λ r.
+        OnOk result (K.took out.new ≡ K.took out.old
+        ++ packet_text (note_text_of r standing (hart_of_thread run.old.harts thread)))) }
     ensures memory { result ≡ Err refusals.OutOfMemory → K.took out.new ≡ K.took out.old }
 {
     match hart_of_thread(run.harts, thread) {

@@ -27,9 +27,11 @@ pub(crate) fn begin_search<R: Threads + Wait + Sync, K: Sink>(
     requires ready { IsReady run.old session.old.standing }
     ensures stays { run.new ≡ run.old }
     ensures ready { OnOk result (IsReady run.old session.new.standing) }
-    ensures search { IfOk result (λ x. IfSome x (λ y. IsUnderWay run.old (state_of session.new) y)) }
+    ensures search { IfOk result (λ x. IfSome x (λ y.
+        IsUnderWay run.old (state_of session.new) y)) }
     ensures goes { OfRun run.old (λ r. IfOk result (λ x. (written : List ℕ)
-        × RepliesOrGoesOn r (state_of session.old) (request_for way) written (state_of session.new) x
+        × RepliesOrGoesOn r (state_of session.old) (request_for way) written
+        (state_of session.new) x
         × (K.took out.new ≡ K.took out.old ++ written))) }
 {
     match Search::new(alloc, run, session, way) {
@@ -55,9 +57,11 @@ pub(crate) fn search_on<R: Threads + Wait + Sync, K: Sink>(
     requires search { IsUnderWay run.old (state_of session.old) search }
     ensures stays { run.new ≡ run.old }
     ensures ready { OnOk result (IsReady run.old session.new.standing) }
-    ensures search { IfOk result (λ x. IfSome x (λ y. IsUnderWay run.old (state_of session.new) y)) }
+    ensures search { IfOk result (λ x. IfSome x (λ y.
+        IsUnderWay run.old (state_of session.new) y)) }
     ensures goes { OfRun run.old (λ r. IfOk result (λ x. (written : List ℕ)
-        × RepliesOrGoesOn r (state_of session.old) (request_for search.reach.way) written (state_of session.new) x
+        × RepliesOrGoesOn r (state_of session.old) (request_for search.reach.way) written
+        (state_of session.new) x
         × (K.took out.new ≡ K.took out.old ++ written))) }
 {
     match search.go_on(rt, run, session) {

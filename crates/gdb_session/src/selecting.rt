@@ -27,7 +27,8 @@ pub(crate) fn say_done<K: Sink>(
     hart: Option<u32>,
     out: &mut K,
 ) -> Result<(), RunError>
-    ensures writes { OnOk result (K.took out.new ≡ K.took out.old ++ packet_text (done_or_missing hart)) }
+    ensures writes { OnOk result (K.took out.new ≡ K.took out.old
+        ++ packet_text (done_or_missing hart)) }
     ensures memory { result ≡ Err refusals.OutOfMemory → K.took out.new ≡ K.took out.old }
 {
     match hart {

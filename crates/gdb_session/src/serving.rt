@@ -26,7 +26,9 @@ pub fn serve<R: Threads + Wait + Sync, S: Source, K: Sink>(
 ) -> Result<(), RunError>
     requires ready { IsReady run.old begun.state.standing }
     ensures stays { run.new ≡ run.old }
-    ensures serves { OfRun run.old (λ r. OnOk result ((t : Talking) × (rest : List ℕ) × Served r (S.gave src.old) (S.gave src.new) (K.took out.old) (K.took out.new) rest t × HasEnded t rest)) }
+    ensures serves { OfRun run.old (λ r. OnOk result ((t : Talking) × (rest : List ℕ) ×
+        Served r (S.gave src.old) (S.gave src.new) (K.took out.old) (K.took out.new) rest t ×
+        HasEnded t rest)) }
 {
     let mut talk = Talk::new(alloc);
     let mut reader = Reader::new();
@@ -50,12 +52,16 @@ fn hear_next<R: Threads + Wait + Sync, S: Source, K: Sink>(
     out: &mut K,
 ) -> Result<bool, RunError>
     requires ready { IsReady run.old talk.old.session.standing }
-    requires search { IfSome talk.old.searching (λ x. IsUnderWay run.old (state_of talk.old.session) x) }
+    requires search { IfSome talk.old.searching (λ x.
+        IsUnderWay run.old (state_of talk.old.session) x) }
     ensures stays { run.new ≡ run.old }
     ensures ready { OnOk result (IsReady run.old talk.new.session.standing) }
-    ensures search { OnOk result (IfSome talk.new.searching (λ x. IsUnderWay run.old (state_of talk.new.session) x)) }
-    ensures serves { OfRun run.old (λ r. (g k : List ℕ) → Served r g (S.gave src.old) k (K.took out.old) reader.old (talking talk.old) →
-        IfOk result (ServesOn r g (S.gave src.new) k (K.took out.new) reader.new (talking talk.new))) }
+    ensures search { OnOk result (IfSome talk.new.searching (λ x.
+        IsUnderWay run.old (state_of talk.new.session) x)) }
+    ensures serves { OfRun run.old (λ r. (g k : List ℕ) →
+        Served r g (S.gave src.old) k (K.took out.old) reader.old (talking talk.old) →
+        IfOk result (ServesOn r g (S.gave src.new) k (K.took out.new) reader.new
+        (talking talk.new))) }
 {
     let heard = match reader.next(alloc, src) {
         Ok(heard) => heard,

@@ -49,11 +49,16 @@ impl Talk {
         out: &mut K,
     ) -> Result<(), RunError>
         requires ready { IsReady run.old self.old.session.standing }
-        requires search { IfSome self.old.searching (λ x. IsUnderWay run.old (state_of self.old.session) x) }
+        requires search { IfSome self.old.searching (λ x.
+            IsUnderWay run.old (state_of self.old.session) x) }
         ensures stays { run.new ≡ run.old }
         ensures ready { OnOk result (IsReady run.old self.new.session.standing) }
-        ensures search { OnOk result (IfSome self.new.searching (λ x. IsUnderWay run.old (state_of self.new.session) x)) }
-        ensures hears { OfRun run.old (λ r. OnOk result ((written : List ℕ) × HearsWhile r (talking self.old) (told_in item.now) self.old.searching written (talking self.new) × (K.took out.new ≡ K.took out.old ++ written))) }
+        ensures search { OnOk result (IfSome self.new.searching (λ x.
+            IsUnderWay run.old (state_of self.new.session) x)) }
+        ensures hears { OfRun run.old (λ r.
+            OnOk result ((written : List ℕ) ×
+            HearsWhile r (talking self.old) (told_in item.now) self.old.searching written
+            (talking self.new) × (K.took out.new ≡ K.took out.old ++ written))) }
     {
         let Some(search) = self.searching.take() else {
             return self.hear_alone(rt, alloc, run, item, out);
@@ -85,8 +90,11 @@ impl Talk {
         requires search { IsUnderWay run.old (state_of self.old.session) search }
         ensures stays { run.new ≡ run.old }
         ensures ready { OnOk result (IsReady run.old self.new.session.standing) }
-        ensures search { OnOk result (IfSome self.new.searching (λ x. IsUnderWay run.old (state_of self.new.session) x)) }
-        ensures goes { OfRun run.old (λ r. OnOk result (TakesUp r (talking self.old) (request_for search.reach.way) (K.took out.old) (K.took out.new) (talking self.new))) }
+        ensures search { OnOk result (IfSome self.new.searching (λ x.
+            IsUnderWay run.old (state_of self.new.session) x)) }
+        ensures goes { OfRun run.old (λ r.
+            OnOk result (TakesUp r (talking self.old) (request_for search.reach.way)
+            (K.took out.old) (K.took out.new) (talking self.new))) }
     {
         let request = request_for(search.reach.way);
         let further = search_on(rt, alloc, run, &mut self.session, search, out)?;
@@ -111,7 +119,8 @@ impl Talk {
         ensures ended { OnOk result (self.new.searching ≡ None) }
         ensures last { self.new.last ≡ self.old.last }
         ensures stands { OfRun run.old (λ r. OnOk result (StandsOrLost r (state_of self.old.session)
-            (interrupted self.old.session.standing search.reach.rounds) (K.took out.old) (K.took out.new) (state_of self.new.session))) }
+            (interrupted self.old.session.standing search.reach.rounds) (K.took out.old)
+            (K.took out.new) (state_of self.new.session))) }
     {
         let standing = search.interrupted(run, self.session.standing);
         drop(search);
@@ -130,12 +139,16 @@ impl Talk {
         out: &mut K,
     ) -> Result<(), RunError>
         requires ready { IsReady run.old self.old.session.standing }
-        requires search { IfSome self.old.searching (λ x. IsUnderWay run.old (state_of self.old.session) x) }
+        requires search { IfSome self.old.searching (λ x.
+            IsUnderWay run.old (state_of self.old.session) x) }
         ensures stays { run.new ≡ run.old }
         ensures ready { OnOk result (IsReady run.old self.new.session.standing) }
-        ensures search { OnOk result (IfSome self.new.searching (λ x. IsUnderWay run.old (state_of self.new.session) x)) }
-        ensures hears { OfRun run.old (λ r. OnOk result ((written : List ℕ) × HearsBy r (talking self.old) (told_in item.now)
-            (asked_by (told_in item.now) self.old.last) written (talking self.new) × (K.took out.new ≡ K.took out.old ++ written))) }
+        ensures search { OnOk result (IfSome self.new.searching (λ x.
+            IsUnderWay run.old (state_of self.new.session) x)) }
+        ensures hears { OfRun run.old (λ r.
+            OnOk result ((written : List ℕ) × HearsBy r (talking self.old) (told_in item.now)
+            (asked_by (told_in item.now) self.old.last) written (talking self.new) ×
+            (K.took out.new ≡ K.took out.old ++ written))) }
     {
         acknowledge(item, out)?;
         let Some(request) = asked_by(item, self.last) else {
@@ -156,8 +169,11 @@ impl Talk {
         requires ready { IsReady run.old self.old.session.standing }
         ensures stays { run.new ≡ run.old }
         ensures ready { OnOk result (IsReady run.old self.new.session.standing) }
-        ensures search { OnOk result (IfSome self.new.searching (λ x. IsUnderWay run.old (state_of self.new.session) x)) }
-        ensures takes { OfRun run.old (λ r. OnOk result (TakesUp r (talking self.old) request (K.took out.old) (K.took out.new) (talking self.new))) }
+        ensures search { OnOk result (IfSome self.new.searching (λ x.
+            IsUnderWay run.old (state_of self.new.session) x)) }
+        ensures takes { OfRun run.old (λ r.
+            OnOk result (TakesUp r (talking self.old) request (K.took out.old) (K.took out.new)
+            (talking self.new))) }
     {
         match request {
             Request::Continue => self.go(rt, alloc, run, Way::On, out),
@@ -183,8 +199,11 @@ impl Talk {
         requires ready { IsReady run.old self.old.session.standing }
         ensures stays { run.new ≡ run.old }
         ensures ready { OnOk result (IsReady run.old self.new.session.standing) }
-        ensures search { OnOk result (IfSome self.new.searching (λ x. IsUnderWay run.old (state_of self.new.session) x)) }
-        ensures goes { OfRun run.old (λ r. OnOk result (TakesUp r (talking self.old) (request_for way) (K.took out.old) (K.took out.new) (talking self.new))) }
+        ensures search { OnOk result (IfSome self.new.searching (λ x.
+            IsUnderWay run.old (state_of self.new.session) x)) }
+        ensures goes { OfRun run.old (λ r.
+            OnOk result (TakesUp r (talking self.old) (request_for way) (K.took out.old)
+            (K.took out.new) (talking self.new))) }
     {
         let search = begin_search(rt, alloc, run, &mut self.session, way, out)?;
         self.searching = search;
@@ -212,7 +231,9 @@ fn reply<R: Threads + Wait + Sync, K: Sink>(
     requires ready { IsReady run.old session.old.standing }
     ensures stays { run.new ≡ run.old }
     ensures ready { OnOk result (IsReady run.old session.new.standing) }
-    ensures replies { OfRun run.old (λ r. OnOk result ((written : List ℕ) × RepliesTo r (state_of session.old) request written (state_of session.new) × (K.took out.new ≡ K.took out.old ++ written))) }
+    ensures replies { OfRun run.old (λ r. OnOk result ((written : List ℕ) ×
+        RepliesTo r (state_of session.old) request written (state_of session.new) ×
+        (K.took out.new ≡ K.took out.old ++ written))) }
 {
     match request {
         Request::Kill => Ok(()),

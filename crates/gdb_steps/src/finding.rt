@@ -28,7 +28,8 @@ pub(crate) fn find_told<R: Threads + Wait + Sync>(
     requires ready { IsReady run.old session.now.standing }
     requires within { from.now.moment.rounds ≤ run.old.timeline.rounds }
     ensures stays { run.new ≡ run.old }
-    ensures finds { OfRun run.old (λ r. IfOk result (λ x. Finds r way (all_told (state_of session.now) (Some hart)) from.now x)) }
+    ensures finds { OfRun run.old (λ r. IfOk result (λ x.
+        Finds r way (all_told (state_of session.now) (Some hart)) from.now x)) }
     ensures within { IfOk result (λ x. IfSome x (λ told. IsWithin run.old told.point)) }
     ensures refused { IfErr result (λ e. e ≡ refusals.OutOfMemory) }
 {
@@ -48,7 +49,8 @@ pub(crate) fn tell_or<R: Threads + Wait + Sync>(
     requires otherwise { IsReady run.old otherwise }
     requires within { IfSome found (λ x. IsWithin run.old x.point) }
     ensures stays { run.new ≡ run.old }
-    ensures standing { OfRun run.old (λ r. IfOk result (λ t. t ≡ told_or r (state_of session.now) otherwise found)) }
+    ensures standing { OfRun run.old (λ r.
+        IfOk result (λ t. t ≡ told_or r (state_of session.now) otherwise found)) }
     ensures ready { IfOk result (λ t. IsReady run.old t) }
     ensures refused { IfErr result (λ e. e ≡ refusals.OutOfMemory) }
 {

@@ -54,7 +54,8 @@ fn step_on<R: Threads + Wait + Sync>(
     requires ready { IsReady run.old session.now.standing }
     requires hart { hart < run.old.harts }
     ensures stays { run.new ≡ run.old }
-    ensures steps { OfRun run.old (λ r. IfOk result (λ t. StepsOn r (state_of session.now) hart t)) }
+    ensures steps { OfRun run.old (λ r. IfOk result (λ t.
+        StepsOn r (state_of session.now) hart t)) }
     ensures ready { IfOk result (λ t. IsReady run.old t) }
     ensures refused { IfErr result (λ e. e ≡ refusals.OutOfMemory) }
 {
@@ -95,7 +96,8 @@ fn step_by<R: Threads + Wait + Sync>(
     requires ready { IsReady run.old session.now.standing }
     requires within { IfSome found (λ x. IsWithin run.old x.point) }
     ensures stays { run.new ≡ run.old }
-    ensures steps { OfRun run.old (λ r. IfOk result (λ t. StepsBy r (state_of session.now) hart found t)) }
+    ensures steps { OfRun run.old (λ r. IfOk result (λ t.
+        StepsBy r (state_of session.now) hart found t)) }
     ensures ready { IfOk result (λ t. IsReady run.old t) }
     ensures refused { IfErr result (λ e. e ≡ refusals.OutOfMemory) }
 {
@@ -120,7 +122,8 @@ fn begins_step<R: Threads + Wait + Sync>(
     requires ready { IsReady run.old session.now.standing }
     requires within { IsWithin run.old told.point }
     ensures stays { run.new ≡ run.old }
-    ensures begins { OfRun run.old (λ r. IfOk result (λ b. b ≡ begins_step r (state_of session.now) hart told)) }
+    ensures begins { OfRun run.old (λ r. IfOk result (λ b.
+        b ≡ begins_step r (state_of session.now) hart told)) }
     ensures refused { IfErr result (λ e. e ≡ refusals.OutOfMemory) }
 {
     let moment = told.point.moment;
@@ -146,7 +149,8 @@ fn step_from<R: Threads + Wait + Sync>(
     requires ready { IsReady run.old session.now.standing }
     requires within { IsWithin run.old at }
     ensures stays { run.new ≡ run.old }
-    ensures steps { OfRun run.old (λ r. IfOk result (λ t. StepsFrom r (state_of session.now) hart at t)) }
+    ensures steps { OfRun run.old (λ r. IfOk result (λ t.
+        StepsFrom r (state_of session.now) hart at t)) }
     ensures ready { IfOk result (λ t. IsReady run.old t) }
     ensures refused { IfErr result (λ e. e ≡ refusals.OutOfMemory) }
 {
@@ -159,7 +163,8 @@ fn step_from<R: Threads + Wait + Sync>(
 /// The later one of two points.
 pub(crate) fn later_of(point: Point, other: Point) -> Point
     ensures point { result ≡ later_of point other }
-    ensures round { (n : ℕ) → point.moment.rounds ≤ n → other.moment.rounds ≤ n → result.moment.rounds ≤ n }
+    ensures round { (n : ℕ) → point.moment.rounds ≤ n → other.moment.rounds ≤ n →
+        result.moment.rounds ≤ n }
 {
     if point.is_before(&other) {
         other
@@ -177,7 +182,8 @@ pub(crate) fn step_back_beside<R: Threads + Wait + Sync>(
 ) -> Result<Standing, RunError>
     requires ready { IsReady run.old session.now.standing }
     ensures stays { run.new ≡ run.old }
-    ensures steps { OfRun run.old (λ r. IfOk result (λ t. StepsBackBeside r (state_of session.now) session.now.standing.general t)) }
+    ensures steps { OfRun run.old (λ r. IfOk result (λ t.
+        StepsBackBeside r (state_of session.now) session.now.standing.general t)) }
     ensures ready { IfOk result (λ t. IsReady run.old t) }
     ensures refused { IfErr result (λ e. e ≡ refusals.OutOfMemory) }
 {

@@ -34,7 +34,8 @@ pub fn step_alone<R: Threads + Wait + Sync>(
     requires ready { IsReady run.old session.now.standing }
     requires hart { hart < run.old.harts }
     ensures stays { run.new ≡ run.old }
-    ensures steps { OfRun run.old (λ r. IfOk result (λ t. StepsAlone r (state_of session.now) hart t)) }
+    ensures steps { OfRun run.old (λ r. IfOk result (λ t.
+        StepsAlone r (state_of session.now) hart t)) }
     ensures ready { IfOk result (λ t. IsReady run.old t) }
     ensures refused { IfErr result (λ e. e ≡ refusals.OutOfMemory) }
 {
@@ -80,7 +81,8 @@ fn pass<R: Threads + Wait + Sync>(
     requires ready { IsReady run.old session.now.standing }
     requires hart { hart < run.old.harts }
     ensures stays { run.new ≡ run.old }
-    ensures passes { OfRun run.old (λ r. IfOk result (λ t. Passes r (state_of session.now) way hart t)) }
+    ensures passes { OfRun run.old (λ r. IfOk result (λ t.
+        Passes r (state_of session.now) way hart t)) }
     ensures ready { IfOk result (λ t. IsReady run.old t) }
     ensures refused { IfErr result (λ e. e ≡ refusals.OutOfMemory) }
 {
@@ -144,7 +146,8 @@ fn pass_one<R: Threads + Wait + Sync>(
     requires ready { IsReady run.old session.now.standing }
     requires hart { hart < run.old.harts }
     ensures stays { run.new ≡ run.old }
-    ensures passes { OfRun run.old (λ r. IfOk result (λ t. PassesOne r (state_of session.now) way hart t)) }
+    ensures passes { OfRun run.old (λ r. IfOk result (λ t.
+        PassesOne r (state_of session.now) way hart t)) }
     ensures ready { IfOk result (λ t. IsReady run.old t) }
     ensures refused { IfErr result (λ e. e ≡ refusals.OutOfMemory) }
 {
@@ -168,7 +171,8 @@ fn move_by<R: Threads + Wait + Sync>(
     requires hart { hart < run.old.harts }
     requires within { IfSome found (λ x. IsWithin run.old x.point) }
     ensures stays { run.new ≡ run.old }
-    ensures moves { OfRun run.old (λ r. IfOk result (λ t. MovesAloneBy r (state_of session.now) way hart found t)) }
+    ensures moves { OfRun run.old (λ r. IfOk result (λ t.
+        MovesAloneBy r (state_of session.now) way hart found t)) }
     ensures ready { IfOk result (λ t. IsReady run.old t) }
     ensures refused { IfErr result (λ e. e ≡ refusals.OutOfMemory) }
 {
@@ -192,7 +196,8 @@ fn move_alone<R: Threads + Wait + Sync>(
     requires hart { hart < run.old.harts }
     requires within { IsWithin run.old at }
     ensures stays { run.new ≡ run.old }
-    ensures moves { OfRun run.old (λ r. IfOk result (λ t. MovesAlone r (state_of session.now) way hart at t)) }
+    ensures moves { OfRun run.old (λ r. IfOk result (λ t.
+        MovesAlone r (state_of session.now) way hart at t)) }
     ensures ready { IfOk result (λ t. IsReady run.old t) }
     ensures refused { IfErr result (λ e. e ≡ refusals.OutOfMemory) }
 {
@@ -205,7 +210,8 @@ fn move_alone<R: Threads + Wait + Sync>(
 /// Where what is told of a move is sought from.
 fn own_from(way: Way, here: Point, at: Point) -> Point
     ensures from { result ≡ own_from way here at }
-    ensures round { (n : ℕ) → here.moment.rounds ≤ n → at.moment.rounds ≤ n → result.moment.rounds ≤ n }
+    ensures round { (n : ℕ) → here.moment.rounds ≤ n → at.moment.rounds ≤ n →
+        result.moment.rounds ≤ n }
 {
     match way {
         Way::On => later_of(here, at),
@@ -222,7 +228,8 @@ fn own_from(way: Way, here: Point, at: Point) -> Point
 /// The sooner one of two points.
 fn sooner_of(point: Point, other: Point) -> Point
     ensures point { result ≡ sooner_of point other }
-    ensures round { (n : ℕ) → point.moment.rounds ≤ n → other.moment.rounds ≤ n → result.moment.rounds ≤ n }
+    ensures round { (n : ℕ) → point.moment.rounds ≤ n → other.moment.rounds ≤ n →
+        result.moment.rounds ≤ n }
 {
     if point.is_before(&other) {
         point
@@ -258,7 +265,8 @@ fn stand_alone<R: Threads + Wait + Sync>(
     requires within { IsWithin run.old at }
     requires found { IfSome found (λ x. IsWithin run.old x.point) }
     ensures stays { run.new ≡ run.old }
-    ensures standing { OfRun run.old (λ r. IfOk result (λ t. t ≡ alone_at r (state_of session.now) way hart at found)) }
+    ensures standing { OfRun run.old (λ r.
+        IfOk result (λ t. t ≡ alone_at r (state_of session.now) way hart at found)) }
     ensures ready { IfOk result (λ t. IsReady run.old t) }
     ensures refused { IfErr result (λ e. e ≡ refusals.OutOfMemory) }
 {
@@ -295,7 +303,8 @@ fn lead<R: Threads + Wait + Sync>(
     requires hart { hart < run.old.harts }
     requires within { IsWithin run.old at }
     ensures stays { run.new ≡ run.old }
-    ensures standing { OfRun run.old (λ r. IfOk result (λ t. t ≡ stands_alone r (state_of session.now) hart (led_to r way hart at))) }
+    ensures standing { OfRun run.old (λ r.
+        IfOk result (λ t. t ≡ stands_alone r (state_of session.now) hart (led_to r way hart at))) }
     ensures ready { IfOk result (λ t. IsReady run.old t) }
     ensures refused { IfErr result (λ e. e ≡ refusals.OutOfMemory) }
 {
@@ -360,7 +369,8 @@ fn stand_at<R: Threads + Wait + Sync>(
     requires hart { hart < run.old.harts }
     requires within { at.moment.rounds ≤ run.old.timeline.rounds }
     ensures stays { run.new ≡ run.old }
-    ensures standing { OfRun run.old (λ r. IfOk result (λ t. t ≡ stands_alone r (state_of session.now) hart at)) }
+    ensures standing { OfRun run.old (λ r.
+        IfOk result (λ t. t ≡ stands_alone r (state_of session.now) hart at)) }
     ensures ready { IfOk result (λ t. IsReady run.old t) }
     ensures refused { IfErr result (λ e. e ≡ refusals.OutOfMemory) }
 {

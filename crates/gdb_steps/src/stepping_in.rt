@@ -33,7 +33,8 @@ pub fn step_in<R: Threads + Wait + Sync>(
     requires hart { hart < run.old.harts }
     ensures stays { run.new ≡ run.old }
     ensures session { session.new ≡ session.old }
-    ensures steps { OfRun run.old (λ r. IfOk result (λ t. StepsIn r low high hart (state_of session.old) t)) }
+    ensures steps { OfRun run.old (λ r. IfOk result (λ t.
+        StepsIn r low high hart (state_of session.old) t)) }
     ensures ready { IfOk result (λ t. IsReady run.old t) }
     ensures refused { IfErr result (λ e. e ≡ refusals.OutOfMemory) }
 {
@@ -57,7 +58,8 @@ fn step_further<R: Threads + Wait + Sync>(
     requires hart { hart < run.old.harts }
     ensures stays { run.new ≡ run.old }
     ensures session { session.new ≡ record session.old { standing = session.new.standing } }
-    ensures steps { OfRun run.old (λ r. IfOk result (λ t. StepsIn r low high hart (state_of session.old) t)) }
+    ensures steps { OfRun run.old (λ r. IfOk result (λ t.
+        StepsIn r low high hart (state_of session.old) t)) }
     ensures ready { IfOk result (λ t. IsReady run.old t) }
     ensures refused { IfErr result (λ e. e ≡ refusals.OutOfMemory) }
 {
@@ -83,7 +85,8 @@ fn steps_further<R: Threads + Wait + Sync>(
 ) -> Result<bool, RunError>
     requires ready { IsReady run.old standing }
     ensures stays { run.new ≡ run.old }
-    ensures further { OfRun run.old (λ r. IfOk result (λ b. b ≡ steps_further r low high hart standing)) }
+    ensures further { OfRun run.old (λ r. IfOk result (λ b.
+        b ≡ steps_further r low high hart standing)) }
     ensures refused { IfErr result (λ e. e ≡ refusals.OutOfMemory) }
 {
     if standing.told != hart || !is_step(standing.reason) {

@@ -33,7 +33,8 @@ impl GuestState {
         requires workers { AreWorkers crew.now.workers }
         requires harts { length self.harts ≡ plan.now.harts }
         requires done { done + 1 < 2 ^ 32 }
-        ensures { IfOk result (λ r. IsHalfDone (keeps_log crew.now.form) plan.now done self r.shared r.ends.items) }
+        ensures { IfOk result (λ r.
+            IsHalfDone (keeps_log crew.now.form) plan.now done self r.shared r.ends.items) }
     {
         let ends = self.do_parallel(crew, plan, done)?;
         Ok(HalfRound {

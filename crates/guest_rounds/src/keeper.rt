@@ -65,7 +65,8 @@ pub trait EventKeeper {
         ensures harts { harts_of ends.new ≡ harts_of ends.old };
 
     // Who takes no accesses keeps any events as well as any others.
-    ghost keeps_any: { logs ≡ false → (k : Self) (es fs : List Happened) → keeps k es → keeps k fs };
+    ghost keeps_any: { logs ≡ false → (k : Self) (es fs : List Happened) → keeps k es →
+        keeps k fs };
 
     ghost may_keep_any: { logs ≡ false → (es fs : List Happened) → may_keep es → may_keep fs };
 }
@@ -79,7 +80,8 @@ impl EventKeeper for Trace {
 
     ghost may_keep = { IsTrace };
 
-    ghost has_room = { λ t adopts os turns. HasPlaces adopts os t × (count_copied adopts os + turns ≤ t.room) };
+    ghost has_room = { λ t adopts os turns. HasPlaces adopts os t ×
+        (count_copied adopts os + turns ≤ t.room) };
 
     fn log_form(&self) -> LogForm {
         LogForm::InBrief

@@ -121,7 +121,8 @@ fn sight_at(
     requires console { HasRoom place.budget shared.old.console }
     requires log { place.budget ≤ shared.old.log.room }
     requires began { shared.old.log.current ≡ [] }
-    ensures { IfOk result (λ s. s ≡ found_at shared.old.pages.memory.code place (reserving_turn_begun start
+    ensures { IfOk result (λ s.
+        s ≡ found_at shared.old.pages.memory.code place (reserving_turn_begun start
         shared.old.pages.memory.bytes shared.old.console.console shared.old.reservations)) }
 {
     let mut here = start;

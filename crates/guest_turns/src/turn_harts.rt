@@ -45,7 +45,8 @@ pub fn turns_in_round<R: Threads + Wait + Sync>(
     requires harts { length guest.harts ≡ plan.now.harts }
     requires done { done + 1 < 2 ^ 32 }
     ensures { IfOk result (λ v. (es : List Event) → Tied guest.shared.reservations es →
-        map (λ xs. xs.items) v.items ≡ turns_in_round (words_of guest.shared.memory.code) plan.now.budget
+        map (λ xs. xs.items) v.items ≡ turns_in_round (words_of guest.shared.memory.code)
+        plan.now.budget
         (quotas_of plan.now) (guest_state done es guest)) }
 {
     // The types keep: bytes in memory, at most 64 harts, and a budget of at most 1,000.

@@ -34,5 +34,6 @@ pub trait Bus {
 
     ghost takes_none: { (b : Self) → takes b [] b };
 
-    ghost takes_more: { (b c d : Self) (ss ts : List Store) → takes b ss c → takes c ts d → takes b (ss ++ ts) d };
+    ghost takes_more: { (b c d : Self) (ss ts : List Store) → takes b ss c → takes c ts d →
+        takes b (ss ++ ts) d };
 }

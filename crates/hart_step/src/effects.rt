@@ -133,7 +133,8 @@ pub(crate) fn load<B: Bus>(
     signed: bool,
 ) -> Result<Answer, OutOfMemory>
     requires { seen.old ≡ None }
-    ensures { IsQuiet (read_by h.old rd address width signed (loaded (B.memory b.now) address width))
+    ensures { IsQuiet (read_by h.old rd address width signed
+        (loaded (B.memory b.now) address width))
         result seen.new h.new }
 {
     match b.load(address, width) {

@@ -46,7 +46,8 @@ pub fn hunt_command<
     messages: &M,
 ) -> Result<ExitStatus, HuntFailure>
     // All that was printed is the table of the hunt that the line asks for, and the status is that of this table.
-    ensures hunts { IfOk result (λ status. (a : AskedHunt (F.holds files.now) (F.begins files.now) W.hunts asked.now) ×
+    ensures hunts { IfOk result (λ status.
+        (a : AskedHunt (F.holds files.now) (F.begins files.now) W.hunts asked.now) ×
         (O.took out.new ≡ O.took out.old ++ hunt_text a.made) × O.is_out out.new ×
         (status ≡ hunt_status asked.now.fail_on a.made.rows)) }
     // Else nothing was printed, or a beginning of that table.
@@ -56,7 +57,8 @@ pub fn hunt_command<
     // After a refusal for another cause than memory and the output nothing was printed.
     ensures unprinted { IfErr result (λ f.
         IsUnprinted (failure_number f) (O.took out.old) (O.took out.new)) }
-    ensures errors { IfErr result (EndsHunt (F.holds files.now) (F.begins files.now) (F.lacks files.now) asked.now
+    ensures errors { IfErr result (EndsHunt (F.holds files.now) (F.begins files.now)
+        (F.lacks files.now) asked.now
         (HasFailed O.failures O.is_stuck out.old out.new)) }
 {
     let given = read_program(files, alloc, &asked.search.program)?;
@@ -81,7 +83,8 @@ fn hunt_given<O: Output, W: WeakHunts, P: HuntObserver + Sync, R: Threads + Wait
     observer: &P,
     out: &mut O,
 ) -> Result<Tally, HuntFailure>
-    ensures hunts { IfOk result (λ t. (h : SetHunt W.hunts asked.now files.now.image.items files.now.input.items) ×
+    ensures hunts { IfOk result (λ t.
+        (h : SetHunt W.hunts asked.now files.now.image.items files.now.input.items) ×
         (O.took out.new ≡ O.took out.old ++ hunt_text h) × (t.rows.items ≡ h.rows)) }
     ensures begun { OnErr result ((O.took out.new ≡ O.took out.old) ⊎
         ((h : SetHunt W.hunts asked.now files.now.image.items files.now.input.items) ×

@@ -57,8 +57,10 @@ fn put_merged<O: Output>(
     ensures merges { IfOk result (λ t. (m : SetMerge files.entry.items) ×
         (O.took out.new ≡ O.took out.old ++ merged_text m) × (t ≡ m.table)) }
     ensures begun { OnErr result ((O.took out.new ≡ O.took out.old) ⊎
-        ((m : SetMerge files.entry.items) × BeganText (O.took out.old) (O.took out.new) (merged_text m))) }
-    ensures errors { IfErr result (IsMergeEnd files.entry.items (HasFailed O.failures O.is_stuck out.old out.new)) }
+        ((m : SetMerge files.entry.items) ×
+        BeganText (O.took out.old) (O.took out.new) (merged_text m))) }
+    ensures errors { IfErr result (IsMergeEnd files.entry.items
+        (HasFailed O.failures O.is_stuck out.old out.new)) }
 {
     if let Some((index, why)) = first_apart(&files) {
         return Err(apart_at(alloc, &files, index, why)?);

@@ -31,10 +31,12 @@ pub fn plan_command<O: Output, M: Messages>(
         (O.took out.new ≡ O.took out.old ++ text) × O.is_out out.new × (status ≡ statuses.Done)) }
     // Else nothing was printed, or a beginning of it.
     ensures begun { OnErr result ((O.took out.new ≡ O.took out.old) ⊎
-        ((text : List ℕ) × IsAskedPlan asked.now text × BeganText (O.took out.old) (O.took out.new) text)) }
+        ((text : List ℕ) × IsAskedPlan asked.now text ×
+        BeganText (O.took out.old) (O.took out.new) text)) }
     ensures harts { has_bad_harts asked.now.harts ≡ true →
         result ≡ Err (failures.Refused refusals.HartsOutOfRange) }
-    ensures errors { IfErr result (EndsPlan asked.now (HasFailed O.failures O.is_stuck out.old out.new)) }
+    ensures errors { IfErr result (EndsPlan asked.now
+        (HasFailed O.failures O.is_stuck out.old out.new)) }
 {
     let plan = asked_plan(alloc, asked)?;
     put_all(out, plan.text.as_slice())?;

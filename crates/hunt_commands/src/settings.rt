@@ -79,7 +79,8 @@ pub(crate) fn hunt_settings(
     named: &[Bytes],
     image: &[u8],
 ) -> Result<HuntSettings, AllocError>
-    ensures numbers { IfOk result (HasNumbers asked.now.search asked.now.first asked.now.plans asked.now.weak) }
+    ensures numbers { IfOk result (HasNumbers asked.now.search asked.now.first asked.now.plans
+        asked.now.weak) }
     ensures ends { IfOk result (HasEnd asked.now) }
     ensures program { IfOk result (λ s. s.header.program ≡ Some (fingerprint_of image.now)) }
     ensures ranges { IfOk result (λ s. s.header.ranges.items ≡

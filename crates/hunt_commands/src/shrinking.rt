@@ -45,8 +45,10 @@ pub fn shrink_command<
     messages: &M,
 ) -> Result<ExitStatus, HuntFailure>
     // All that was printed is the text of a plan that the search of the line leads to.
-    ensures shrinks { IfOk result (λ status. (a : AskedShrink (F.holds files.now) (F.begins files.now) asked.now) ×
-        (O.took out.new ≡ O.took out.old ++ shrunk_text a.made) × O.is_out out.new × (status ≡ statuses.Done)) }
+    ensures shrinks { IfOk result (λ status.
+        (a : AskedShrink (F.holds files.now) (F.begins files.now) asked.now) ×
+        (O.took out.new ≡ O.took out.old ++ shrunk_text a.made) × O.is_out out.new ×
+        (status ≡ statuses.Done)) }
     // Else nothing was printed, or a beginning of such a text.
     ensures begun { OnErr result ((O.took out.new ≡ O.took out.old) ⊎
         ((a : AskedShrink (F.holds files.now) (F.begins files.now) asked.now) ×
@@ -54,7 +56,8 @@ pub fn shrink_command<
     // After a refusal for another cause than memory and the output nothing was printed.
     ensures unprinted { IfErr result (λ f.
         IsUnprinted (failure_number f) (O.took out.old) (O.took out.new)) }
-    ensures errors { IfErr result (EndsShrink (F.holds files.now) (F.begins files.now) (F.lacks files.now) asked.now
+    ensures errors { IfErr result (EndsShrink (F.holds files.now) (F.begins files.now)
+        (F.lacks files.now) asked.now
         (HasFailed O.failures O.is_stuck out.old out.new)) }
 {
     let given = read_program(files, alloc, &asked.search.program)?;
@@ -75,7 +78,8 @@ fn shrink_given<P: ShrinkObserver + ProgressLine, R: Threads + Wait + Sync>(
     asked: &Shrink<'_>,
     progress: &mut P,
 ) -> Result<Plan, HuntFailure>
-    ensures shrinks { IfOk result (λ plan. (s : SetShrink asked.now files.now.image.items files.now.input.items) ×
+    ensures shrinks { IfOk result (λ plan.
+        (s : SetShrink asked.now files.now.image.items files.now.input.items) ×
         (plan ≡ s.plan)) }
     ensures errors { IfErr result (IsShrinkEnd asked.now files.now.image.items) }
 {

@@ -29,8 +29,10 @@ pub(crate) fn tables_in_order<'a, F: Files>(
     alloc: Global,
     paths: &[&'a str],
 ) -> Result<Vec<TableFile<'a>>, MergeFailure>
-    ensures tables { IfOk result (λ v. AreTables (F.holds files.now) (map (λ s. s.now) paths.now) v.items) }
-    ensures errors { IfErr result (IsReadEnd (F.holds files.now) (F.lacks files.now) (map (λ s. s.now) paths.now)) }
+    ensures tables { IfOk result (λ v.
+        AreTables (F.holds files.now) (map (λ s. s.now) paths.now) v.items) }
+    ensures errors { IfErr result (IsReadEnd (F.holds files.now) (F.lacks files.now)
+        (map (λ s. s.now) paths.now)) }
 {
     let mut tables = read_tables(files, alloc, paths)?;
     tables.sort_by_key(|file| file.table.header.first)?;
@@ -43,8 +45,10 @@ fn read_tables<'a, F: Files>(
     alloc: Global,
     paths: &[&'a str],
 ) -> Result<Vec<TableFile<'a>>, MergeFailure>
-    ensures read { IfOk result (λ v. AreRead (F.holds files.now) (map (λ s. s.now) paths.now) v.items) }
-    ensures errors { IfErr result (IsReadEnd (F.holds files.now) (F.lacks files.now) (map (λ s. s.now) paths.now)) }
+    ensures read { IfOk result (λ v.
+        AreRead (F.holds files.now) (map (λ s. s.now) paths.now) v.items) }
+    ensures errors { IfErr result (IsReadEnd (F.holds files.now) (F.lacks files.now)
+        (map (λ s. s.now) paths.now)) }
 {
     let mut tables = Vec::new(alloc);
     for path in paths {

@@ -33,13 +33,17 @@ pub(crate) fn write_rows<S: Sink, W: WeakHunts, O: HuntObserver + Sync, R: Threa
     observer: &O,
     out: &mut S,
 ) -> Result<Tally, WeakHuntError>
-    ensures hunts { IfOk result (λ t. IsTableBy W.hunts steps settings.now.header.is_weak settings.now
+    ensures hunts { IfOk result (λ t.
+        IsTableBy W.hunts steps settings.now.header.is_weak settings.now
         files.now.image.items files.now.input.items t.done t.rows.items ×
-        (S.took out.new ≡ S.took out.old ++ table_text (with_count settings.now.header t.done) t.rows.items)) }
+        (S.took out.new ≡ S.took out.old ++ table_text (with_count settings.now.header t.done)
+        t.rows.items)) }
     ensures begun { OnErr result ((S.took out.new ≡ S.took out.old) ⊎
-        ((n : ℕ) × (rows : List TableRow) × IsTableBy W.hunts steps settings.now.header.is_weak settings.now
+        ((n : ℕ) × (rows : List TableRow) ×
+        IsTableBy W.hunts steps settings.now.header.is_weak settings.now
         files.now.image.items files.now.input.items n rows ×
-        BeganText (S.took out.old) (S.took out.new) (table_text (with_count settings.now.header n) rows))) }
+        BeganText (S.took out.old) (S.took out.new)
+        (table_text (with_count settings.now.header n) rows))) }
     ensures unprinted { IfErr result (λ e.
         IsUnprinted (weak_hunt_number e) (S.took out.old) (S.took out.new)) }
     ensures settings { (e : Refusal) → hunt_fault settings.now ≡ Some e → result ≡ Err (Hunt e) }

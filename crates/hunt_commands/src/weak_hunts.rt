@@ -46,19 +46,25 @@ pub trait WeakHunts {
     ) -> Result<Tally, WeakHuntError>
         requires sync { IsSync R.row }
         requires weak { settings.now.header.is_weak ≡ true }
-        ensures hunts { IfOk result (λ t. IsWeaklyHunted settings.now image.now input.now t.done t.rows.items ×
+        ensures hunts { IfOk result (λ t.
+            IsWeaklyHunted settings.now image.now input.now t.done t.rows.items ×
             hunts settings.now image.now input.now steps t.done t.rows.items ×
-            (S.took out.new ≡ S.took out.old ++ table_text (with_count settings.now.header t.done) t.rows.items)) }
+            (S.took out.new ≡ S.took out.old
+            ++ table_text (with_count settings.now.header t.done) t.rows.items)) }
         ensures begun { OnErr result ((S.took out.new ≡ S.took out.old) ⊎
-            ((n : ℕ) × (rows : List TableRow) × IsWeaklyHunted settings.now image.now input.now n rows ×
+            ((n : ℕ) × (rows : List TableRow) ×
+            IsWeaklyHunted settings.now image.now input.now n rows ×
             hunts settings.now image.now input.now steps n rows ×
-            BeganText (S.took out.old) (S.took out.new) (table_text (with_count settings.now.header n) rows))) }
+            BeganText (S.took out.old) (S.took out.new)
+            (table_text (with_count settings.now.header n) rows))) }
         ensures unprinted { IfErr result (λ e.
             IsUnprinted (weak_hunt_number e) (S.took out.old) (S.took out.new)) }
-        ensures settings { (e : Refusal) → hunt_fault settings.now ≡ Some e → result ≡ Err (Hunt e) }
+        ensures settings { (e : Refusal) → hunt_fault settings.now ≡ Some e →
+            result ≡ Err (Hunt e) }
         ensures errors { hunt_fault settings.now ≡ None → IfErr result (λ e.
             IsWeakReason settings.now image.now e ⊎
-            ((e ≡ Hunt (hunting.Run refusals.SinkFailed)) × (S.failures out.old < S.failures out.new))) }
+            ((e ≡ Hunt (hunting.Run refusals.SinkFailed)) ×
+            (S.failures out.old < S.failures out.new))) }
         ensures image { (cause : ImageCause) → hunt_fault settings.now ≡ None →
             IsImageCause settings.now image.now cause →
             (result ≡ Err (Hunt (hunting.Run (refusals.Image cause)))) ⊎

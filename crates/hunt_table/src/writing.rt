@@ -27,7 +27,8 @@ pub fn write_table<S: Sink>(
     rows: &[Row],
     out: &mut S,
 ) -> Result<(), RunError>
-    ensures writes { WritesText (table_text (with_count header.now count) rows.now) (S.took out.old) (S.failures out.old) result (S.took out.new) (S.failures out.new) }
+    ensures writes { WritesText (table_text (with_count header.now count) rows.now) (S.took out.old)
+        (S.failures out.old) result (S.took out.new) (S.failures out.new) }
     ensures memory { result ≡ Err RunError.OutOfMemory → S.took out.new ≡ S.took out.old }
 {
     let mut line = Line::new(alloc);

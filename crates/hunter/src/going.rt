@@ -117,7 +117,8 @@ fn asks_in_next<R: Threads + Wait + Sync>(
     requires rounds { machine.old.rounds + 1 < 2 ^ 32 }
     requires run { (m : Running) × IsUntraced m machine.old }
     ensures asks { (m : Running) → IsUntraced m machine.old → IfOk result (λ b. b ≡
-        asks_in_round (words_of m.code) (asks_number m.code) m.plan.budget (quotas_of m.plan) m.state) }
+        asks_in_round (words_of m.code) (asks_number m.code) m.plan.budget (quotas_of m.plan)
+        m.state) }
     ensures stays { machine.new ≡ machine.old }
 {
     let there = shared_copy(machine)?;

@@ -36,7 +36,8 @@ impl<O: HuntObserver> Runs for Guest<'_, O> {
     ghost use Rattle.round_planner.specs.Families.{family_plan};
     ghost use Rattle.hunter.specs.Hunts.{ends_from, family_of};
 
-    ghost ends = { λ g n. ends_from g.settings.now g.image g.input.now (family_plan (family_of g.settings.now) n) };
+    ghost ends = { λ g n.
+        ends_from g.settings.now g.image g.input.now (family_plan (family_of g.settings.now) n) };
 
     fn run<R: Threads + Wait + Sync>(&self, rt: &R, number: u32) -> Result<Ending, OutOfMemory> {
         self.run_under(rt, self.family().plan(self.alloc, number)?)

@@ -31,7 +31,8 @@ pub fn tabulate_hunt<O: HuntObserver + Sync, R: Threads + Wait + Sync>(
     settings: &HuntSettings,
     observer: &O,
 ) -> Result<Tally, HuntError>
-    ensures table { IfOk result (λ t. IsHunted settings.now image.now input.now t.done t.rows.items) }
+    ensures table { IfOk result (λ t.
+        IsHunted settings.now image.now input.now t.done t.rows.items) }
     ensures settings { (e : Refusal) → hunt_fault settings.now ≡ Some e → result ≡ Err e }
     ensures errors { hunt_fault settings.now ≡ None →
         IfErr result (λ e. IsHuntReason settings.now image.now e) }

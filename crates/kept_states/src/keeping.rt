@@ -53,7 +53,8 @@ pub fn keep(alloc: Global, seen: &Seen<'_>, every: u32) -> Result<Checkpoint, Ou
     requires { All (λ h. has_stop h.stop ≡ true) seen.now.harts.now }
     ensures checkpoint { IfOk result (λ k. checkpoint_view k ≡ checkpoint_in every seen.now) }
     ensures ranges { IfOk result (λ k.
-        (checkpoint_after (length seen.now.harts.now) every seen.now.round).Has (checkpoint_view k)) }
+        (checkpoint_after (length seen.now.harts.now) every seen.now.round).Has
+        (checkpoint_view k)) }
 {
     let summary = summary_of(alloc, seen)?;
     let registers = if every != 0 && seen.round % every == 0 {

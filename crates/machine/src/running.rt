@@ -56,9 +56,11 @@ impl Machine {
         ensures stopped { IfOk result (λ n. n.stopped ≡ count_stopped self.new.state.harts) }
         ensures err { OnErr result (self.new ≡ self.old) }
         ensures workers { AreNoWorkers workers → result ≡ Err refusals.WorkersOutOfRange }
-        ensures exhausted { 1 ≤ workers → workers ≤ MOST_WORKERS → self.old.state.rounds + 1 ≡ 2 ^ 32 →
+        ensures exhausted { 1 ≤ workers → workers ≤ MOST_WORKERS →
+            self.old.state.rounds + 1 ≡ 2 ^ 32 →
             result ≡ Err refusals.RoundsExhausted }
-        ensures refused { 1 ≤ workers → workers ≤ MOST_WORKERS → self.old.state.rounds + 1 < 2 ^ 32 →
+        ensures refused { 1 ≤ workers → workers ≤ MOST_WORKERS →
+            self.old.state.rounds + 1 < 2 ^ 32 →
             IfErr result (λ e. e ≡ refusals.OutOfMemory) }
     {
         if workers < 1 || workers > MOST_WORKERS {

@@ -32,7 +32,8 @@ pub trait Visitor {
     /// Looks at the machine after one more round.
     fn after_round(&mut self, machine: &UntracedMachine) -> Result<Next, OutOfMemory>
         requires { (first : Self) × (start : Untraced) × (rounds : ℕ) × (done : ℕ) × (done <
-            rounds) × knows first self.old start rounds done × HasDone (done + 1) start machine.now }
+            rounds) × knows first self.old start rounds done ×
+            HasDone (done + 1) start machine.now }
         ensures known { OnOk result ((first : Self) (start : Untraced) (rounds done : ℕ) → done <
             rounds → knows first self.old start rounds done → HasDone (done + 1) start machine.now →
             knows first self.new start rounds (done + 1)) }

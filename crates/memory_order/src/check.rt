@@ -58,7 +58,8 @@ fn meets_axioms(
     requires formed { All HasForm events.now }
     requires lists { ListsOperations events.now order.now }
     requires ranked { IsRanking events.now order.now ranks.now }
-    ensures { IfOk result (λ yes. IsTrue yes ↔ (PreservedOrder events.now (order_position order.now) ×
+    ensures { IfOk result (λ yes.
+        IsTrue yes ↔ (PreservedOrder events.now (order_position order.now) ×
         LoadValueAxiom events.now (opening_at trace.now.opening) (order_position order.now) ×
         AtomicityAxiom events.now (order_position order.now))) }
 {

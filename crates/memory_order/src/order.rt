@@ -32,7 +32,8 @@ pub fn memory_order(alloc: Global, trace: &Trace) -> Result<Order, OutOfMemory>
     ensures meets { IfOk result (λ o. (opening : ℕ → ℕ) (budget : ℕ) → IsRoundTrace trace.now.events
         opening budget → MeetsRvwmo trace.now.events opening o.0.items) }
     ensures program { IfOk result (λ o. (opening : ℕ → ℕ) (budget : ℕ) → IsRoundTrace
-        trace.now.events opening budget → RespectsProgramOrder trace.now.events (order_position o.0.items)) }
+        trace.now.events opening budget →
+        RespectsProgramOrder trace.now.events (order_position o.0.items)) }
 {
     let events = trace.to_vec(alloc)?;
     Ok(Order(by_rounds(alloc, &events)?))

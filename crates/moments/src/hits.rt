@@ -40,7 +40,8 @@ pub fn hits_in_part<B: Bus>(
     asked: &Asked,
 ) -> Result<PartHits, OutOfMemory>
     requires shows { Shows (B.memory b.old) code.now.first code.now.instructions }
-    requires quiet { AreQuiet asked.now.stops.items code.now.first code.now.instructions lengths.now }
+    requires quiet { AreQuiet asked.now.stops.items code.now.first code.now.instructions
+        lengths.now }
     ensures counts { IfOk result (λ p. p.counts.items ≡ hits_from (tells asked.now number) 0
         (harts_in_part (B.memory b.old).code quota (sight_of h.old (B.memory b.old)))) }
     ensures done { IfOk result (λ p. length (harts_in_part (B.memory b.old).code quota
@@ -84,9 +85,11 @@ fn walk<B: Bus>(
     counts: &mut Vec<u32>,
 ) -> Result<u32, OutOfMemory>
     requires shows { Shows (B.memory b.old) code.now.first code.now.instructions }
-    requires quiet { AreQuiet asked.now.stops.items code.now.first code.now.instructions lengths.now }
+    requires quiet { AreQuiet asked.now.stops.items code.now.first code.now.instructions
+        lengths.now }
     requires none { counts.old.items ≡ [] }
-    ensures { IfOk result (λ done. Walked (tells asked.now number) (harts_in_part (B.memory b.old).code quota
+    ensures { IfOk result (λ done.
+        Walked (tells asked.now number) (harts_in_part (B.memory b.old).code quota
         (sight_of h.old (B.memory b.old))) counts.new.items done h.new) }
 {
     let mut done = 0;

@@ -105,7 +105,8 @@ impl Sight {
     fn byte(&self, address: u64, offset: u64) -> Option<u8>
         ensures past { IfNone result (length self.now.bytes ≤ address + offset) }
         ensures within { IfSome result (λ _. address + offset < length self.now.bytes) }
-        ensures byte { IfSome result (λ byte. byte ≡ slice_index self.now.bytes (address + offset)) }
+        ensures byte { IfSome result (λ byte.
+            byte ≡ slice_index self.now.bytes (address + offset)) }
     {
         // At most 64 MiB, each of which is a byte.
         self.pages.bytes_fit();

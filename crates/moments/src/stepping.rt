@@ -17,7 +17,8 @@ pub(crate) fn step_by<B: Bus>(
     requires running { h.old.stop ≡ None }
     requires shows { Shows (B.memory b.old) code.now.first code.now.instructions }
     ensures { Performs (λ s. s) (B.has_room b.old) (B.takes b.old)
-        (record { hart = h.old; memory = B.memory b.old }) (stepped h.old (B.memory b.old)) (record {
+        (record { hart = h.old; memory = B.memory b.old }) (stepped h.old (B.memory b.old))
+        (record {
           result = result;
           hart = h.new;
           memory = B.memory b.new;

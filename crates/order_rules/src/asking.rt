@@ -31,7 +31,8 @@ pub fn first_rule(
     requires sourced { HasSources events.now order.now sources.now.items }
     requires within { b < length events.now }
     requires before { ProgramBefore events.now a b }
-    ensures { MatchOption result (NoneAsks instructions.now events.now (order_position order.now) a b)
+    ensures { MatchOption result (NoneAsks instructions.now events.now (order_position order.now)
+        a b)
         (λ rule. IsFirstRule rule instructions.now events.now (order_position order.now) a b) }
 {
     for rule in RULES {

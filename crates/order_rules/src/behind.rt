@@ -56,7 +56,8 @@ pub(crate) fn behind_before(
     requires sourced { HasSources events.now order.now sources.now.items }
     requires within { b < length events.now }
     requires earlier { k < b }
-    requires behind { IsBehind instructions.now events.now (order_position order.now) b (k + 1) behind.now }
+    requires behind { IsBehind instructions.now events.now (order_position order.now) b (k + 1)
+        behind.now }
     ensures { IsBehind instructions.now events.now (order_position order.now) b k result }
 {
     if !is_same_hart(events, k, b) {
@@ -98,11 +99,14 @@ fn needed_before(
     forwards: bool,
 ) -> [bool; 32]
     requires { AreRegisters used.now }
-    ensures kept { (q : ℕ) → q ≢ destination → slice_index_or needed.now q false ≡ true → slice_index_or result q false ≡ true }
-    ensures carried { used.now.carries ≡ true → slice_index_or needed.now destination false ≡ true → NeedsAll result used.now }
+    ensures kept { (q : ℕ) → q ≢ destination → slice_index_or needed.now q false ≡ true →
+        slice_index_or result q false ≡ true }
+    ensures carried { used.now.carries ≡ true → slice_index_or needed.now destination false ≡ true →
+        NeedsAll result used.now }
     ensures steered { stores ≡ true → used.now.steers ≡ true → NeedsAll result used.now }
     ensures address { stores ≡ true → slice_index_or result used.now.address false ≡ true }
-    ensures forwarded_address { forwards ≡ true → slice_index_or result used.now.address false ≡ true }
+    ensures forwarded_address { forwards ≡ true →
+        slice_index_or result used.now.address false ≡ true }
     ensures forwarded_value { forwards ≡ true → slice_index_or result used.now.value false ≡ true }
 {
     let carried = are_both(used.carries, needed[destination.index()]);
@@ -117,7 +121,8 @@ fn needed_before(
 /// With the source registers of an instruction, or without.
 fn with_sources(needed: [bool; 32], used: &Registers, are_needed: bool) -> [bool; 32]
     requires { AreRegisters used.now }
-    ensures kept { (q : ℕ) → slice_index_or needed q false ≡ true → slice_index_or result q false ≡ true }
+    ensures kept { (q : ℕ) → slice_index_or needed q false ≡ true →
+        slice_index_or result q false ≡ true }
     ensures there { are_needed ≡ true → NeedsAll result used.now }
 {
     let with_address = with_register(needed, used.address, are_needed);
@@ -128,7 +133,8 @@ fn with_sources(needed: [bool; 32], used: &Registers, are_needed: bool) -> [bool
 
 /// With a register, or without.
 fn with_register(mut needed: [bool; 32], r: Reg, is_needed: bool) -> [bool; 32]
-    ensures kept { (q : ℕ) → slice_index_or needed q false ≡ true → slice_index_or result q false ≡ true }
+    ensures kept { (q : ℕ) → slice_index_or needed q false ≡ true →
+        slice_index_or result q false ≡ true }
     ensures there { is_needed ≡ true → slice_index_or result r false ≡ true }
 {
     if is_needed {
@@ -139,7 +145,8 @@ fn with_register(mut needed: [bool; 32], r: Reg, is_needed: bool) -> [bool; 32]
 
 /// Without a register.
 fn without_register(mut needed: [bool; 32], r: Reg) -> [bool; 32]
-    ensures { (q : ℕ) → q ≢ r → slice_index_or needed q false ≡ true → slice_index_or result q false ≡ true }
+    ensures { (q : ℕ) → q ≢ r → slice_index_or needed q false ≡ true →
+        slice_index_or result q false ≡ true }
 {
     needed[r.index()] = false;
     needed

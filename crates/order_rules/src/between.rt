@@ -38,7 +38,8 @@ pub(crate) fn are_paired(events: &[Event], a: usize, b: usize) -> bool
 fn is_unreserved_between(events: &[Event], a: usize, b: usize) -> bool
     requires within { b < length events.now }
     requires before { ProgramBefore events.now a b }
-    ensures { IsTrue result ↔ ((k : ℕ) → a < k → k < b → (event events.now k).hart ≡ (event events.now b).hart →
+    ensures { IsTrue result ↔ ((k : ℕ) → a < k → k < b →
+        (event events.now k).hart ≡ (event events.now b).hart →
         is_lr_or_sc (event events.now k).access ≡ true → ⊥) }
 {
     for k in a + 1..b {

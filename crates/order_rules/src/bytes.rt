@@ -85,7 +85,8 @@ fn both_read(events: &[Event], a: usize, b: usize, x: u64) -> bool
     requires formed { All HasForm events.now }
     requires first { a < length events.now }
     requires second { b < length events.now }
-    ensures { IsTrue result ↔ ((reads_at events.now a x ≡ true) × (reads_at events.now b x ≡ true)) }
+    ensures { IsTrue result ↔ ((reads_at events.now a x ≡ true) ×
+        (reads_at events.now b x ≡ true)) }
 {
     reads_at(events, a, x) && reads_at(events, b, x)
 }

@@ -43,7 +43,8 @@ pub fn find_candidates(
     requires ranked { AreRanked events.now order.now ranks.now }
     requires sourced { HasSources events.now order.now sources.now.items }
     requires within { b < length events.now }
-    ensures { IfOk result (λ v. AreCandidates instructions.now events.now (order_position order.now) b 0 v.items) }
+    ensures { IfOk result (λ v.
+        AreCandidates instructions.now events.now (order_position order.now) b 0 v.items) }
 {
     let mut may = vec![in alloc; true; b]?;
     let mut behind = behind_itself(instructions, events, b);
@@ -71,8 +72,10 @@ fn may_order(
     requires sourced { HasSources events.now order.now sources.now.items }
     requires within { b < length events.now }
     requires earlier { a < b }
-    requires behind { IsBehind instructions.now events.now (order_position order.now) b (a + 1) behind.now }
-    ensures { result ≡ false → ProgramBefore events.now a b → NoneAsks instructions.now events.now (order_position order.now) a b }
+    requires behind { IsBehind instructions.now events.now (order_position order.now) b (a + 1)
+        behind.now }
+    ensures { result ≡ false → ProgramBefore events.now a b →
+        NoneAsks instructions.now events.now (order_position order.now) a b }
 {
     if !is_same_hart(events, a, b) {
         return false;
@@ -88,9 +91,13 @@ fn is_kept(instructions: &[Instr], events: &[Event], behind: &Behind, a: usize) 
     requires along { length instructions.now ≡ length events.now }
     requires formed { All HasForm events.now }
     requires within { a < length events.now }
-    ensures loads { result ≡ false → loads (event events.now a).access ≡ true → behind.now.loads ≡ false }
-    ensures stores { result ≡ false → stores (event events.now a).access ≡ true → behind.now.stores ≡ false }
-    ensures needed { result ≡ false → slice_index_or behind.now.needed (destination_at instructions.now events.now a) false ≡ false }
+    ensures loads { result ≡ false → loads (event events.now a).access ≡ true →
+        behind.now.loads ≡ false }
+    ensures stores { result ≡ false → stores (event events.now a).access ≡ true →
+        behind.now.stores ≡ false }
+    ensures needed { result ≡ false →
+        slice_index_or behind.now.needed (destination_at instructions.now events.now a) false
+        ≡ false }
 {
     let used = used_registers(&instructions[a]);
     are_registers(&used);
@@ -116,7 +123,8 @@ fn is_paired_by(
     requires sourced { HasSources events.now order.now sources.now.items }
     requires within { b < length events.now }
     requires before { ProgramBefore events.now a b }
-    ensures { result ≡ false → (k : OrderRule) → is_of_pair k ≡ true → Asks k instructions.now events.now (order_position order.now) a b → ⊥ }
+    ensures { result ≡ false → (k : OrderRule) → is_of_pair k ≡ true →
+        Asks k instructions.now events.now (order_position order.now) a b → ⊥ }
 {
     for rule in RULES {
         if is_of_pair(rule) && asks(rule, instructions, events, order, ranks, sources, a, b) {

@@ -102,7 +102,8 @@ fn forwards_at(
     requires sourced { HasSources events.now order.now sources.now.items }
     requires within { b < length events.now }
     requires before { ProgramBefore events.now a b }
-    ensures { IsTrue result ↔ ForwardsAt instructions.now events.now (order_position order.now) a b x }
+    ensures { IsTrue result ↔ ForwardsAt instructions.now events.now (order_position order.now) a b
+        x }
 {
     if !reads_at(events, b, x) {
         return false;

@@ -68,7 +68,8 @@ impl Model for Pages {
     } };
 
     ghost invariant = { λ p.
-        PagesHold p.parts.items (length p.spares.items) p.unready p.code.items p.code_start p.code_end };
+        PagesHold p.parts.items (length p.spares.items) p.unready p.code.items p.code_start
+        p.code_end };
 }
 
 impl Pages {

@@ -30,7 +30,9 @@ impl<B: BookStart> Entry for HartRound<B> {
 
     ghost is_right = { λ r. r.content };
 
-    ghost is_same = { λ r s e. one_end B.start (ticket_of r).hart (ticket_of s).hart (end_in r) (end_in s) r.content s.content e };
+    ghost is_same = { λ r s e.
+        one_end B.start (ticket_of r).hart (ticket_of s).hart (end_in r) (end_in s) r.content
+        s.content e };
 }
 
 impl<B: BookStart> HartRound<B> {

@@ -51,7 +51,8 @@ struct Worker<'a, 'b, B: BookStart, G, R> {
 }
 
 impl<'a, 'b, B: BookStart, G: Gate, R: Wait> Work<Seat<HartRound<B>>> for Worker<'a, 'b, B, G, R> {
-    ghost asks = { λ w k. (w.start.now ≡ B.start) × IsReady w.book.now.table (length w.start.now.harts) k };
+    ghost asks = { λ w k. (w.start.now ≡ B.start) ×
+        IsReady w.book.now.table (length w.start.now.harts) k };
 
     ghost leaves = { λ w k. k.table ≡ w.book.now.table };
 

@@ -47,7 +47,8 @@ pub fn refuse_rounds(asked: bool) -> Result<(), PastFailure>
 pub(crate) fn refuse_some_rounds(from: Option<u32>, to: Option<u32>) -> Result<(), PastFailure>
     ensures from { OnOk result (from ≡ None) }
     ensures to { OnOk result (to ≡ None) }
-    ensures errors { IfErr result (λ f. (f ≡ failures.NoRounds) × ((is_some from || is_some to) ≡ true)) }
+    ensures errors { IfErr result (λ f. (f ≡ failures.NoRounds) ×
+        ((is_some from || is_some to) ≡ true)) }
 {
     match (from, to) {
         (None, None) => Ok(()),
@@ -63,7 +64,8 @@ pub(crate) fn refuse_some_rounds(from: Option<u32>, to: Option<u32>) -> Result<(
 pub fn refuse_workers(workers: u32) -> Result<(), PastFailure>
     ensures ok { OnOk result (AreWorkers workers) }
     ensures errors { OnErr result (AreNoWorkers workers) }
-    ensures refused { IfErr result (λ f. f ≡ failures.Run (runs.Refused refusals.WorkersOutOfRange)) }
+    ensures refused { IfErr result (λ f. f
+        ≡ failures.Run (runs.Refused refusals.WorkersOutOfRange)) }
 {
     if workers < 1 || workers > MOST_WORKERS {
         return Err(PastFailure::from(RunError::WorkersOutOfRange));

@@ -14,6 +14,7 @@ pub trait PastFiles: Files {
     ///
     /// `TooLarge` where a file with the second mark has 1 GiB or more, or never ends; any other `FileFault` where it can't be opened or read.
     fn read_either(&self, path: &str, first: &[u8], second: &[u8]) -> Result<Vec<u8>, FileFault>
-        ensures either { IfOk result (λ bytes. either self.now path.now first.now second.now bytes.items) }
+        ensures either { IfOk result (λ bytes.
+            either self.now path.now first.now second.now bytes.items) }
         ensures lacks { IfErr result (Self.lacks self.now path.now) };
 }

@@ -88,7 +88,8 @@ fn found_line(
     hart: u32,
     ranges: &[SeenRange],
 ) -> Result<Line, OutOfMemory>
-    ensures { IfOk result (λ l. l ≡ found_text hart ranges.now checked.now checked.now.sights.before) }
+    ensures { IfOk result (λ l.
+        l ≡ found_text hart ranges.now checked.now checked.now.sights.before) }
 {
     match &checked.sights.before {
         Some(before) => before_line(alloc, checked, hart, before, ranges),

@@ -32,7 +32,8 @@ pub(crate) fn watched_bytes(
 
 /// The bytes that are named by addresses.
 fn addressed(alloc: Global, asked: &Watch<'_>) -> Result<Vec<Bytes>, OutOfMemory>
-    ensures { IfOk result (λ v. v.items ≡ asked.now.more.items ++ at_address asked.now.address asked.now.length asked.now.is_decimal) }
+    ensures { IfOk result (λ v. v.items ≡ asked.now.more.items
+        ++ at_address asked.now.address asked.now.length asked.now.is_decimal) }
 {
     let mut bytes = Vec::from_slice(alloc, &asked.more)?;
     if let Some(address) = asked.address {

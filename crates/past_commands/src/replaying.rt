@@ -53,9 +53,11 @@ pub fn replay_command<
 ) -> Result<ExitStatus, PastFailure>
     // All that was printed is the answer to what the line asks of what the file holds, and the status is that of this answer.
     ensures answers { IfOk result (λ status. (a : AskedReplay (F.either files.now) asked.now) ×
-        (O.took out.new ≡ O.took out.old ++ a.answer.text) × O.is_out out.new × (status ≡ a.answer.status)) }
+        (O.took out.new ≡ O.took out.old ++ a.answer.text) × O.is_out out.new ×
+        (status ≡ a.answer.status)) }
     // Else nothing was printed, or a beginning of such an answer.
-    ensures begun { OnErr result ((O.took out.new ≡ O.took out.old) ⊎ ((a : AskedReplay (F.either files.now) asked.now) ×
+    ensures begun { OnErr result ((O.took out.new ≡ O.took out.old) ⊎
+        ((a : AskedReplay (F.either files.now) asked.now) ×
         BeganText (O.took out.old) (O.took out.new) a.answer.text)) }
     // After a refusal for another cause than memory and the output nothing was printed.
     ensures unprinted { IfErr result (λ f.

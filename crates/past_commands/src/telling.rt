@@ -40,7 +40,8 @@ pub(crate) fn tell<R: Threads + Wait + Sync>(
     asked: &Replay<'_>,
 ) -> Result<Told, RunError>
     ensures told { IfOk result (λ told. (plan : Planned) × IsPlanFor recorded.now plan ×
-        IsTold asked.now.hart asked.now.count recorded.now.rounds (start_of recorded.now plan) question told) }
+        IsTold asked.now.hart asked.now.count recorded.now.rounds (start_of recorded.now plan)
+        question told) }
     ensures in_order { RefusedInOrder asked.now.workers recorded.now result }
 {
     let (hart, workers) = (asked.hart, asked.workers);

@@ -35,7 +35,8 @@ pub(crate) fn print_watched<S: Sink>(
     watched: &Watched,
     out: &mut S,
 ) -> Result<ExitStatus, RunError>
-    ensures prints { Prints (watched_text watched.now) (S.took out.old) (S.failures out.old) result (S.took out.new) (S.failures out.new) }
+    ensures prints { Prints (watched_text watched.now) (S.took out.old) (S.failures out.old) result
+        (S.took out.new) (S.failures out.new) }
     ensures status { IfOk result (λ status. status ≡ watched_status watched.now) }
 {
     match watched {
@@ -57,7 +58,8 @@ fn print_hits<S: Sink>(
     pcs: &[Option<u64>],
     out: &mut S,
 ) -> Result<(), RunError>
-    ensures { Prints (hits_text hits.now pcs.now) (S.took out.old) (S.failures out.old) result (S.took out.new) (S.failures out.new) }
+    ensures { Prints (hits_text hits.now pcs.now) (S.took out.old) (S.failures out.old) result
+        (S.took out.new) (S.failures out.new) }
 {
     let line = number_line(alloc, "hits ", hits.len() as u64)?;
     put_all(out, line.as_bytes())?;
@@ -71,7 +73,8 @@ fn print_lines<S: Sink>(
     pcs: &[Option<u64>],
     out: &mut S,
 ) -> Result<(), RunError>
-    ensures { Prints (hits_lines hits.now pcs.now) (S.took out.old) (S.failures out.old) result (S.took out.new) (S.failures out.new) }
+    ensures { Prints (hits_lines hits.now pcs.now) (S.took out.old) (S.failures out.old) result
+        (S.took out.new) (S.failures out.new) }
 {
     for (number, hit) in hits.iter().enumerate() {
         print_hit(alloc, hit, pc_at(pcs, number), out)?;
@@ -96,7 +99,8 @@ fn print_hit<S: Sink>(
     pc: Option<u64>,
     out: &mut S,
 ) -> Result<(), RunError>
-    ensures { Prints (hit_line pc hit.now) (S.took out.old) (S.failures out.old) result (S.took out.new) (S.failures out.new) }
+    ensures { Prints (hit_line pc hit.now) (S.took out.old) (S.failures out.old) result
+        (S.took out.new) (S.failures out.new) }
 {
     let line = hit_line(alloc, hit, pc)?;
     put_all(out, line.as_bytes())

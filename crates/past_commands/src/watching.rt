@@ -53,9 +53,11 @@ pub fn watch_command<
 ) -> Result<ExitStatus, PastFailure>
     // All that was printed are the hits that the line asks for, or why RVWMO doesn't allow the execution, and the status is that of this.
     ensures watches { IfOk result (λ status. (a : AskedWatch (F.either files.now) asked.now) ×
-        (O.took out.new ≡ O.took out.old ++ watched_text a.watched) × O.is_out out.new × (status ≡ watched_status a.watched)) }
+        (O.took out.new ≡ O.took out.old ++ watched_text a.watched) × O.is_out out.new ×
+        (status ≡ watched_status a.watched)) }
     // Else nothing was printed, or a beginning of that.
-    ensures begun { OnErr result ((O.took out.new ≡ O.took out.old) ⊎ ((a : AskedWatch (F.either files.now) asked.now) ×
+    ensures begun { OnErr result ((O.took out.new ≡ O.took out.old) ⊎
+        ((a : AskedWatch (F.either files.now) asked.now) ×
         BeganText (O.took out.old) (O.took out.new) (watched_text a.watched))) }
     // After a refusal for another cause than memory and the output nothing was printed.
     ensures unprinted { IfErr result (λ f.
@@ -81,10 +83,13 @@ fn hand_on_watched<O: Output>(
     watched: &Watched,
     out: &mut O,
 ) -> Result<ExitStatus, PastFailure>
-    ensures printed { IfOk result (λ status. (O.took out.new ≡ O.took out.old ++ watched_text watched.now) ×
+    ensures printed { IfOk result (λ status.
+        (O.took out.new ≡ O.took out.old ++ watched_text watched.now) ×
         O.is_out out.new × (status ≡ watched_status watched.now)) }
-    ensures begun { OnErr result (BeganText (O.took out.old) (O.took out.new) (watched_text watched.now)) }
-    ensures errors { IfErr result (λ f. IsOutput (HasFailed O.failures O.is_stuck out.old out.new) f ⊎ (f ≡ out_of_memory)) }
+    ensures begun { OnErr result (BeganText (O.took out.old) (O.took out.new)
+        (watched_text watched.now)) }
+    ensures errors { IfErr result (λ f.
+        IsOutput (HasFailed O.failures O.is_stuck out.old out.new) f ⊎ (f ≡ out_of_memory)) }
 {
     let status = print_watched(alloc, watched, out)?;
     out.hand_on()?;

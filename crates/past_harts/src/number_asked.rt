@@ -28,7 +28,8 @@ pub fn asks_number<R: Threads + Wait + Sync>(
 ) -> Result<bool, RunError>
     requires run { (m : Running) × IsUntraced m machine }
     ensures asks { (m : Running) → IsUntraced m machine → IfOk result (λ b. b ≡
-        asks_in_round (words_of m.code) (asks_number m.code) m.plan.budget (quotas_of m.plan) m.state) }
+        asks_in_round (words_of m.code) (asks_number m.code) m.plan.budget (quotas_of m.plan)
+        m.state) }
     ensures exhausted { machine.rounds + 1 ≡ 2 ^ 32 → result ≡ Err refusals.RoundsExhausted }
     ensures refused { machine.rounds + 1 < 2 ^ 32 →
         IfErr result (λ e. e ≡ refusals.OutOfMemory) }

@@ -31,7 +31,8 @@ pub fn harts_in_turns<R: Threads + Wait + Sync>(
     workers: u32,
 ) -> Result<Vec<Vec<Hart>>, RunError>
     requires run { (m : Running) × IsUntraced m machine }
-    ensures turns { (m : Running) → IsUntraced m machine → IfOk result (λ v. map (λ xs. xs.items) v.items
+    ensures turns { (m : Running) → IsUntraced m machine →
+        IfOk result (λ v. map (λ xs. xs.items) v.items
         ≡ turns_in_round (words_of m.code) m.plan.budget (quotas_of m.plan) m.state) }
     ensures workers { AreNoWorkers workers → result ≡ Err refusals.WorkersOutOfRange }
     ensures exhausted { 1 ≤ workers → workers ≤ MOST_WORKERS → machine.rounds + 1 ≡ 2 ^ 32 →

@@ -151,7 +151,8 @@ fn value_read(access: &Access) -> Option<u64>
 
 /// Adds what was read.
 pub(crate) fn read(line: &mut Line, access: &Access) -> Result<(), OutOfMemory>
-    ensures { OnOk result (line.new ≡ line.old ++ read_text (bytes_of access.now) (read_of access.now)) }
+    ensures { OnOk result (line.new ≡ line.old
+        ++ read_text (bytes_of access.now) (read_of access.now)) }
 {
     number_read(line, access.byte_count(), value_read(access))
 }

@@ -110,7 +110,8 @@ fn event_boxes(
     boxes: &[EventBox],
 ) -> Result<(), OutOfMemory>
     ensures { OnOk result (line.new ≡ line.old ++ each_with_earlier
-        (box_text trace.now.events (opening_at trace.now.opening) (map told sites.now)) [] boxes.now) }
+        (box_text trace.now.events (opening_at trace.now.opening) (map told sites.now)) []
+        boxes.now) }
 {
     for (number, shown) in boxes.iter().enumerate() {
         event_box(line, trace, sites, &boxes[..number], shown)?;
@@ -182,7 +183,8 @@ pub fn write_picture<S: Sink>(
     out: &mut S,
 ) -> Result<(), RunError>
     requires { length scene.now.starts.now ≤ MOST_HARTS }
-    ensures writes { WritesText (picture_text (drawn_of scene.now) view.now) (S.took out.old) (S.failures out.old) result (S.took out.new) (S.failures out.new) }
+    ensures writes { WritesText (picture_text (drawn_of scene.now) view.now) (S.took out.old)
+        (S.failures out.old) result (S.took out.new) (S.failures out.new) }
     ensures memory { result ≡ Err RunError.OutOfMemory → S.took out.new ≡ S.took out.old }
 {
     let mut line = Line::new(alloc);

@@ -31,7 +31,8 @@ pub(crate) fn tabulate_block<Q: Runs + Sync, O: HuntObserver + Sync, R: Threads 
     requires few { extent.first + extent.most < 2 ^ 32 }
     requires more { tally.old.done < extent.most }
     requires going { tally.old.is_over ≡ false }
-    requires tally { IsTally (Q.ends runs.now) extent tally.old.is_over tally.old.done tally.old.rows.items }
+    requires tally { IsTally (Q.ends runs.now) extent tally.old.is_over tally.old.done
+        tally.old.rows.items }
     ensures tally { OnOk result (IsTally (Q.ends runs.now) extent tally.new.is_over
         tally.new.done tally.new.rows.items) }
     ensures more { OnOk result (tally.new.is_over ≡ false → tally.old.done < tally.new.done) }
@@ -116,7 +117,8 @@ fn search<Q: Runs + Sync, O: HuntObserver + Sync, R: Threads + Wait + Sync>(
         &|_, found: &mut Vec<Found>|
             requires { IsSync R.row × (task.now.first + task.now.count < 2 ^ 32) ×
                 All (IsFound (Q.ends runs.now) task.now.first) found.now.items }
-            ensures { All (IsFound (Q.ends runs.entry.now) task.entry.now.first) found.exit.now.items }
+            ensures { All (IsFound (Q.ends runs.entry.now) task.entry.now.first)
+                found.exit.now.items }
         { work(rt, runs, task, &next, found) },
     );
 }
@@ -137,7 +139,8 @@ fn finish<Q: Runs, O: HuntObserver, R: Threads + Wait + Sync>(
     requires slots { AreSlots (Q.ends runs.now) (extent.first + tally.old.done) slots.old }
     requires within { tally.old.done + length slots.old ≤ extent.most }
     requires going { tally.old.is_over ≡ false }
-    requires tally { IsTally (Q.ends runs.now) extent tally.old.is_over tally.old.done tally.old.rows.items }
+    requires tally { IsTally (Q.ends runs.now) extent tally.old.is_over tally.old.done
+        tally.old.rows.items }
     ensures tally { OnOk result (IsTally (Q.ends runs.now) extent tally.new.is_over
         tally.new.done tally.new.rows.items) }
     ensures more { OnOk result (tally.new.is_over ≡ false → tally.old.done < tally.new.done) }
@@ -169,7 +172,8 @@ fn add_next<Q: Runs, R: Threads + Wait + Sync>(
     requires more { tally.old.done < extent.most }
     requires going { tally.old.is_over ≡ false }
     requires found { IfSome found (λ e. e ≡ Q.ends runs.now (extent.first + tally.old.done)) }
-    requires tally { IsTally (Q.ends runs.now) extent tally.old.is_over tally.old.done tally.old.rows.items }
+    requires tally { IsTally (Q.ends runs.now) extent tally.old.is_over tally.old.done
+        tally.old.rows.items }
     ensures tally { OnOk result (IsTally (Q.ends runs.now) extent tally.new.is_over
         tally.new.done tally.new.rows.items) }
     ensures more { OnOk result (tally.new.done ≡ tally.old.done + 1) }

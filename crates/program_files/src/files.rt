@@ -34,7 +34,8 @@ pub trait FileText {
     ///
     /// `OutOfMemory` and `SinkFailed`; a beginning of the text is written then.
     fn write_to<S: Sink>(&self, alloc: Global, out: &mut S) -> Result<(), RunError>
-        ensures writes { WritesText (text self.now) (S.took out.old) (S.failures out.old) result (S.took out.new) (S.failures out.new) };
+        ensures writes { WritesText (text self.now) (S.took out.old) (S.failures out.old) result
+            (S.took out.new) (S.failures out.new) };
 }
 
 /// The files of a host. A path is one as the host takes it.

@@ -43,7 +43,8 @@ pub(crate) fn add_objects(
 
 /// The first of the names that the image has no object of, or several.
 pub(crate) fn first_missing<'a>(image: &[u8], names: &[&'a str]) -> Option<&'a str>
-    ensures { option_map (λ s. s.now) result ≡ first_missing image.now (map (λ s. s.now) names.now) }
+    ensures { option_map (λ s. s.now) result
+        ≡ first_missing image.now (map (λ s. s.now) names.now) }
 {
     for name in names {
         if one_object(image, name).is_none() {

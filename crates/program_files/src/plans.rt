@@ -36,7 +36,8 @@ pub fn plan_of<F: Files>(
     choice: &PlanChoice<'_>,
     harts: u32,
 ) -> Result<AskedPlan, RunFailure>
-    ensures plan { IfOk result (λ plan. IsPlanChosen (F.holds files.now) choice.now harts plan.text.items plan.budget) }
+    ensures plan { IfOk result (λ plan.
+        IsPlanChosen (F.holds files.now) choice.now harts plan.text.items plan.budget) }
     ensures errors { IfErr result (IsFileFailure (F.lacks files.now) (IsFileOfPlan choice.now) ⊥) }
 {
     let (text, is_file) = match (choice.number, choice.file) {
@@ -85,7 +86,8 @@ impl AskedPlan {
 pub fn family_plan(alloc: Global, family: Family, number: u32) -> Result<AskedPlan, OutOfMemory>
     requires some_harts { 1 ≤ family.harts }
     requires few_harts { family.harts ≤ MOST_HARTS }
-    ensures { IfOk result (λ p. IsFamilyPlan family.seed family.harts number p.text.items p.budget) }
+    ensures { IfOk result (λ p.
+        IsFamilyPlan family.seed family.harts number p.text.items p.budget) }
 {
     let plan = family.plan(alloc, number)?;
     Ok(AskedPlan {

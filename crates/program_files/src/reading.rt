@@ -21,7 +21,8 @@ const MOST_OF_FLAT: u64 = MOST_PAGES as u64 * 4096 + 1;
 /// `File` where it can't be read, and `OutOfMemory`.
 pub fn read_file<F: Files>(files: &F, alloc: Global, path: &str) -> Result<Vec<u8>, RunFailure>
     ensures holds { IfOk result (λ bytes. F.holds files.now path.now bytes.items) }
-    ensures errors { IfErr result (IsFileFailure (F.lacks files.now) (λ named. named ≡ path.now) ⊥) }
+    ensures errors { IfErr result (IsFileFailure (F.lacks files.now)
+        (λ named. named ≡ path.now) ⊥) }
 {
     match files.read_whole(path) {
         Ok(bytes) => Ok(bytes),
@@ -59,7 +60,8 @@ pub fn read_program<F: Files>(
     alloc: Global,
     program: &Program<'_>,
 ) -> Result<ProgramFiles, RunFailure>
-    ensures program { IfOk result (λ p. IsProgramOf (F.holds files.now) (F.begins files.now) program.now
+    ensures program { IfOk result (λ p.
+        IsProgramOf (F.holds files.now) (F.begins files.now) program.now
         p.image.items p.input.items) }
     ensures errors { IfErr result (IsFileFailure (F.lacks files.now) (IsFileOfProgram program.now)
         (LacksSpurious (F.holds files.now) (F.begins files.now) program.now)) }

@@ -95,7 +95,8 @@ pub(crate) fn checkpoint_at(
     round: u32,
 ) -> Result<(Checkpoint, &[u8]), ReadError>
     ensures { Gives (λ x.
-        (checkpoint_view x.0, x.1.now)) result ((checkpoint_after count every round).taken bytes.now) }
+        (checkpoint_view x.0, x.1.now)) result
+        ((checkpoint_after count every round).taken bytes.now) }
 {
     let (summary, rest) = summary_at(alloc, bytes, count)?;
     if every != 0 && round % every == 0 {

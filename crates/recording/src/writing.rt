@@ -17,7 +17,8 @@ use std::alloc::{AllocError, Global};
 ///
 /// `OutOfMemory`: nothing is written then. `SinkFailed`: a beginning of the text is.
 pub fn write_recording<S: Sink>(alloc: Global, r: &Recording, out: &mut S) -> Result<(), RunError>
-    ensures writes { WritesText (recording.spelled r.now) (S.took out.old) (S.failures out.old) result
+    ensures writes { WritesText (recording.spelled r.now) (S.took out.old) (S.failures out.old)
+        result
         (S.took out.new) (S.failures out.new) }
     ensures memory { result ≡ Err refusals.OutOfMemory → S.took out.new ≡ S.took out.old }
 {
@@ -176,7 +177,8 @@ fn put_checkpoint(
     round: u64,
 ) -> Result<(), AllocError>
     ensures { OnOk result ((count : ℕ) → text.new.items ≡
-        text.old.items ++ (checkpoint_after count every round).spelled (checkpoint_view checkpoint.now)) }
+        text.old.items ++ (checkpoint_after count every round).spelled
+        (checkpoint_view checkpoint.now)) }
 {
     put_summary(text, &checkpoint.summary)?;
     put_due(text, &checkpoint.registers, every, round)
@@ -185,7 +187,8 @@ fn put_checkpoint(
 /// What a recording has of the rounds, of which the first is 1.
 fn put_rounds(text: &mut Vec<u8>, checkpoints: &[Checkpoint], every: u32) -> Result<(), AllocError>
     ensures { OnOk result ((count : ℕ) → text.new.items ≡
-        text.old.items ++ spelled_each 1 (checkpoint_after count every) (map checkpoint_view checkpoints.now)) }
+        text.old.items ++ spelled_each 1 (checkpoint_after count every)
+        (map checkpoint_view checkpoints.now)) }
 {
     for (index, state) in checkpoints.iter().enumerate() {
         put_checkpoint(text, state, every, index as u64 + 1)?;

@@ -40,8 +40,11 @@ pub fn find_refusal(
     requires formed { All HasForm events.now }
     requires along { length instructions.now ≡ length events.now }
     ensures { IfOk result (λ o. MatchOption o
-        (MeetsRvwmoBy (DependencyRule instructions.now events.now) events.now (opening_at opening.now.opening) order.now.0.items)
-        (λ r. IsTrueOf r instructions.now events.now (opening_at opening.now.opening) order.now.0.items)) }
+        (MeetsRvwmoBy (DependencyRule instructions.now events.now) events.now
+        (opening_at opening.now.opening) order.now.0.items)
+        (λ r.
+        IsTrueOf r instructions.now events.now (opening_at opening.now.opening)
+        order.now.0.items)) }
 {
     find_in(alloc, opening, instructions, events, &order.0)
 }
@@ -57,7 +60,8 @@ fn find_in(
     requires formed { All HasForm events.now }
     requires along { length instructions.now ≡ length events.now }
     ensures { IfOk result (λ o. MatchOption o
-        (MeetsRvwmoBy (DependencyRule instructions.now events.now) events.now (opening_at opening.now.opening) order.now)
+        (MeetsRvwmoBy (DependencyRule instructions.now events.now) events.now
+        (opening_at opening.now.opening) order.now)
         (λ r. IsTrueOf r instructions.now events.now (opening_at opening.now.opening) order.now)) }
 {
     match positions(alloc, events, order)? {
@@ -69,7 +73,8 @@ fn find_in(
 /// What an order lists amiss that doesn't list each memory operation once and nothing else.
 fn find_unlisted(alloc: Global, events: &[Event], order: &[usize]) -> Result<Refusal, OutOfMemory>
     requires { ListsOperations events.now order.now → ⊥ }
-    ensures { IfOk result (λ r. (is : List Instr) (opening : ℕ → ℕ) → IsTrueOf r is events.now opening order.now) }
+    ensures { IfOk result (λ r. (is : List Instr) (opening : ℕ → ℕ) →
+        IsTrueOf r is events.now opening order.now) }
 {
     if let Some(position) = first_stranger(events, order) {
         return Ok(Refusal::NoOperation { position });
@@ -96,7 +101,8 @@ fn find_unmet(
     requires along { length instructions.now ≡ length events.now }
     requires ranked { AreRanked events.now order.now ranks.now }
     ensures { IfOk result (λ o. MatchOption o
-        (MeetsRvwmoBy (DependencyRule instructions.now events.now) events.now (opening_at opening.now.opening) order.now)
+        (MeetsRvwmoBy (DependencyRule instructions.now events.now) events.now
+        (opening_at opening.now.opening) order.now)
         (λ r. IsTrueOf r instructions.now events.now (opening_at opening.now.opening) order.now)) }
 {
     let sources = sources_of_loads(alloc, events, order, ranks)?;

@@ -12,8 +12,10 @@ use std::alloc::Global;
 /// The first position at which an order has the index of no memory operation.
 pub(crate) fn first_stranger(events: &[Event], order: &[usize]) -> Option<usize>
     ensures { MatchOption result
-        ((p : ℕ) → p < length order.now → is_operation (event events.now (slice_index order.now p)) ≡ true)
-        (λ p. (p < length order.now) × (is_operation (event events.now (slice_index order.now p)) ≡ false)) }
+        ((p : ℕ) → p < length order.now →
+        is_operation (event events.now (slice_index order.now p)) ≡ true)
+        (λ p. (p < length order.now) ×
+        (is_operation (event events.now (slice_index order.now p)) ≡ false)) }
 {
     for p in 0..order.len() {
         if !is_operation_at(events, order[p]) {
@@ -29,7 +31,8 @@ pub(crate) fn first_positions(
     events: &[Event],
     order: &[usize],
 ) -> Result<Vec<usize>, OutOfMemory>
-    requires { (p : ℕ) → p < length order.now → is_operation (event events.now (slice_index order.now p)) ≡ true }
+    requires { (p : ℕ) → p < length order.now →
+        is_operation (event events.now (slice_index order.now p)) ≡ true }
     ensures { IfOk result (λ v. AreFirstPositions events.now order.now (length order.now) v.items) }
 {
     let absent = order.len();
@@ -45,10 +48,12 @@ pub(crate) fn first_positions(
 
 /// The first index that an order has a second time.
 pub(crate) fn first_twice(events: &[Event], order: &[usize], firsts: &[usize]) -> Option<usize>
-    requires operations { (p : ℕ) → p < length order.now → is_operation (event events.now (slice_index order.now p)) ≡ true }
+    requires operations { (p : ℕ) → p < length order.now →
+        is_operation (event events.now (slice_index order.now p)) ≡ true }
     requires firsts { AreFirstPositions events.now order.now (length order.now) firsts.now }
     ensures { MatchOption result
-        ((i j : ℕ) → i < j → j < length order.now → slice_index order.now i ≢ slice_index order.now j)
+        ((i j : ℕ) → i < j → j < length order.now →
+        slice_index order.now i ≢ slice_index order.now j)
         (λ a. IsTwice order.now a) }
 {
     let _events = events;
@@ -64,7 +69,8 @@ pub(crate) fn first_twice(events: &[Event], order: &[usize], firsts: &[usize]) -
 pub(crate) fn first_left_out(events: &[Event], order: &[usize], firsts: &[usize]) -> Option<usize>
     requires { AreFirstPositions events.now order.now (length order.now) firsts.now }
     ensures { MatchOption result
-        ((i : ℕ) → i < length events.now → is_operation (event events.now i) ≡ true → Contains order.now i)
+        ((i : ℕ) → i < length events.now → is_operation (event events.now i) ≡ true →
+        Contains order.now i)
         (λ i. (is_operation (event events.now i) ≡ true) × (Contains order.now i → ⊥)) }
 {
     for i in 0..events.len() {

@@ -38,8 +38,11 @@ pub(crate) fn find_broken(
     requires ranked { AreRanked events.now order.now ranks.now }
     requires sourced { HasSources events.now order.now sources.now.items }
     ensures { IfOk result (λ pair. MatchOption pair
-        (PreservedOrderBy (DependencyRule instructions.now events.now (order_position order.now)) events.now (order_position order.now))
-        (λ p. IsFirstBroken p.rule instructions.now events.now (order_position order.now) p.first p.second)) }
+        (PreservedOrderBy (DependencyRule instructions.now events.now (order_position order.now))
+        events.now (order_position order.now))
+        (λ p.
+        IsFirstBroken p.rule instructions.now events.now (order_position order.now) p.first
+        p.second)) }
 {
     let violation = first_violation(alloc, instructions, events, order, ranks, sources)?;
     match violation {
@@ -64,8 +67,12 @@ fn first_broken_at(
     requires along { length instructions.now ≡ length events.now }
     requires ranked { AreRanked events.now order.now ranks.now }
     requires sourced { HasSources events.now order.now sources.now.items }
-    requires second { IsFirstViolation events.now (PreservedAt (DependencyRule instructions.now events.now (order_position order.now)) events.now (order_position order.now)) second }
-    ensures { IfOk result (λ p. IsFirstBroken p.rule instructions.now events.now (order_position order.now) p.first p.second) }
+    requires second { IsFirstViolation events.now
+        (PreservedAt (DependencyRule instructions.now events.now (order_position order.now))
+        events.now (order_position order.now)) second }
+    ensures { IfOk result (λ p.
+        IsFirstBroken p.rule instructions.now events.now (order_position order.now) p.first
+        p.second) }
 {
     let may = find_candidates(alloc, instructions, events, order, ranks, sources, second)?;
     match find_broken_at(instructions, events, order, ranks, sources, &may, second) {
@@ -88,10 +95,14 @@ fn find_broken_at(
     requires ranked { AreRanked events.now order.now ranks.now }
     requires sourced { HasSources events.now order.now sources.now.items }
     requires within { second < length events.now }
-    requires candidates { AreCandidates instructions.now events.now (order_position order.now) second 0 may.now }
+    requires candidates { AreCandidates instructions.now events.now (order_position order.now)
+        second 0 may.now }
     ensures at { MatchOption result (Unit {0}) (λ p. p.second ≡ second) }
-    ensures first { MatchOption result (NoneBrokenAt instructions.now events.now (order_position order.now) second second)
-        (λ p. IsFirstBrokenAt p.rule instructions.now events.now (order_position order.now) p.first second) }
+    ensures first { MatchOption result (NoneBrokenAt instructions.now events.now
+        (order_position order.now) second second)
+        (λ p.
+        IsFirstBrokenAt p.rule instructions.now events.now (order_position order.now) p.first
+        second) }
 {
     for first in 0..second {
         match broken_by_candidate(
@@ -133,9 +144,11 @@ fn broken_by_candidate(
     requires sourced { HasSources events.now order.now sources.now.items }
     requires within { second < length events.now }
     requires earlier { first < second }
-    requires candidates { AreCandidates instructions.now events.now (order_position order.now) second 0 may.now }
+    requires candidates { AreCandidates instructions.now events.now (order_position order.now)
+        second 0 may.now }
     ensures { MatchOption result
-        ((rule : OrderRule) → IsBroken rule instructions.now events.now (order_position order.now) first second → ⊥)
+        ((rule : OrderRule) →
+        IsBroken rule instructions.now events.now (order_position order.now) first second → ⊥)
         (λ rule. IsTurned events.now (order_position order.now) first second ×
         IsFirstRule rule instructions.now events.now (order_position order.now) first second) }
 {
@@ -161,7 +174,8 @@ fn broken_rule(
     requires within { second < length events.now }
     requires earlier { first < second }
     ensures { MatchOption result
-        ((rule : OrderRule) → IsBroken rule instructions.now events.now (order_position order.now) first second → ⊥)
+        ((rule : OrderRule) →
+        IsBroken rule instructions.now events.now (order_position order.now) first second → ⊥)
         (λ rule. IsTurned events.now (order_position order.now) first second ×
         IsFirstRule rule instructions.now events.now (order_position order.now) first second) }
 {

@@ -30,7 +30,8 @@ pub(crate) fn find_torn(
 ) -> Result<Option<Pair>, OutOfMemory>
     requires ranked { AreRanked events.now order.now ranks.now }
     requires sourced { HasSources events.now order.now sources.now.items }
-    ensures { IfOk result (λ pair. MatchOption pair (AtomicityAxiom events.now (order_position order.now))
+    ensures { IfOk result (λ pair.
+        MatchOption pair (AtomicityAxiom events.now (order_position order.now))
         (λ p. IsTorn events.now (order_position order.now) p.reserve p.conditional)) }
 {
     let reserved = last_reserved(alloc, events)?;
@@ -165,7 +166,8 @@ fn precedes(
     requires ranked { AreRanked events.now order.now ranks.now }
     requires within { c < length events.now }
     requires source { MatchOption source (Unit {0}) (λ s. s < length events.now) }
-    ensures { IsTrue result ↔ MatchOption source (Unit {0}) (λ s. order_position order.now s < order_position order.now c) }
+    ensures { IsTrue result ↔ MatchOption source (Unit {0}) (λ s.
+        order_position order.now s < order_position order.now c) }
 {
     match source {
         Some(s) => position_of(events, order, ranks, s) < position_of(events, order, ranks, c),

@@ -28,8 +28,11 @@ pub(crate) fn find_wrong(
 ) -> Option<ByteRead>
     requires ranked { AreRanked events.now order.now ranks.now }
     requires sourced { HasSources events.now order.now sources.now.items }
-    ensures { MatchOption result (LoadValueAxiom events.now (opening_at opening.now.opening) (order_position order.now))
-        (λ w. IsWrong events.now (opening_at opening.now.opening) (order_position order.now) w.load w.address) }
+    ensures { MatchOption result (LoadValueAxiom events.now (opening_at opening.now.opening)
+        (order_position order.now))
+        (λ w.
+        IsWrong events.now (opening_at opening.now.opening) (order_position order.now) w.load
+        w.address) }
 {
     for load in 0..events.len() {
         match find_wrong_at(opening, events, order, ranks, sources, load) {
@@ -52,8 +55,10 @@ fn find_wrong_at(
     requires ranked { AreRanked events.now order.now ranks.now }
     requires sourced { HasSources events.now order.now sources.now.items }
     requires within { load < length events.now }
-    ensures { MatchOption result (IsRightLoad events.now (opening_at opening.now.opening) (order_position order.now) load)
-        (λ x. IsWrong events.now (opening_at opening.now.opening) (order_position order.now) load x) }
+    ensures { MatchOption result (IsRightLoad events.now (opening_at opening.now.opening)
+        (order_position order.now) load)
+        (λ x.
+        IsWrong events.now (opening_at opening.now.opening) (order_position order.now) load x) }
 {
     let event = event_at(events, load);
     if !event.access.loads() {
@@ -82,8 +87,10 @@ fn is_right(
     requires sourced { HasSources events.now order.now sources.now.items }
     requires within { load < length events.now }
     requires reads { reads_at events.now load x ≡ true }
-    ensures right { result ≡ true → IsRight events.now (opening_at opening.now.opening) (order_position order.now) load x }
-    ensures wrong { result ≡ false → IsWrong events.now (opening_at opening.now.opening) (order_position order.now) load x }
+    ensures right { result ≡ true →
+        IsRight events.now (opening_at opening.now.opening) (order_position order.now) load x }
+    ensures wrong { result ≡ false →
+        IsWrong events.now (opening_at opening.now.opening) (order_position order.now) load x }
 {
     let source = source_of(events, order, ranks, sources, load, x);
     events[load].access.byte_read(x) == byte_left(opening, events, source, x)

@@ -201,7 +201,8 @@ fn run_copy<R: Threads + Wait + Sync>(
     requires opened { start.old.state.rounds ≡ 0 }
     requires none { later.old.items ≡ [] }
     ensures verdict { IfOk result (λ v. IsVerdict recording.now start.old v) }
-    ensures later { OnOk result (AreCheckpoints every recording.now.rounds start.old later.new.items) }
+    ensures later { OnOk result (AreCheckpoints every recording.now.rounds start.old
+        later.new.items) }
     ensures stays { start.new ≡ start.old }
     ensures refused { IfErr result (λ e. e ≡ refusals.OutOfMemory) }
 {
@@ -225,7 +226,8 @@ fn run_keeping<R: Threads + Wait + Sync>(
     requires opened { machine.old.state.rounds ≡ 0 }
     requires none { machines.old.items ≡ [] }
     ensures verdict { IfOk result (λ v. IsVerdict recording.now machine.old v) }
-    ensures machines { OnOk result (AreCheckpoints every recording.now.rounds machine.old machines.new.items) }
+    ensures machines { OnOk result (AreCheckpoints every recording.now.rounds machine.old
+        machines.new.items) }
     ensures refused { IfErr result (λ e. e ≡ refusals.OutOfMemory) }
 {
     let rounds = recording.rounds();

@@ -106,7 +106,8 @@ fn sight_in_round<R: Threads + Wait + Sync>(
     requires workers { AreWorkers workers }
     requires rounds { machine.rounds + before + 1 < 2 ^ 32 }
     requires run { (m : Running) × IsUntraced m machine }
-    ensures sight { (m : Running) → IsUntraced m machine → IfOk result (λ s. s ≡ sight_after (words_of
+    ensures sight { (m : Running) → IsUntraced m machine →
+        IfOk result (λ s. s ≡ sight_after (words_of
         m.code) m.plan.budget (quotas_of m.plan) (after_rounds before m).state hart count) }
     ensures refused { IfErr result (λ e. e ≡ refusals.OutOfMemory) }
 {

@@ -118,7 +118,8 @@ fn keep_rounds<O: Observer, R: Threads + Wait + Sync>(
     ensures checkpoints { (m : Running) → IsUntraced m machine.old →
         IfOk result (λ v. map checkpoint_view v.items ≡ checkpoints_of_rounds every rounds m) }
     ensures ranges { IfOk result (λ v.
-        HaveEach rounds 1 (checkpoint_after machine.old.plan.harts every) (map checkpoint_view v.items)) }
+        HaveEach rounds 1 (checkpoint_after machine.old.plan.harts every)
+        (map checkpoint_view v.items)) }
     ensures refused { IfErr result (λ e. e ≡ refusals.OutOfMemory) }
 {
     let mut recorder = Recorder {
@@ -170,10 +171,12 @@ fn recording_of(
     checkpoints: Vec<Checkpoint>,
 ) -> Result<Recording, RunError>
     requires settings { IsInRange settings.now }
-    requires checkpoints { HaveEach settings.now.rounds 1 (checkpoint_after settings.now.harts every)
+    requires checkpoints { HaveEach settings.now.rounds 1
+        (checkpoint_after settings.now.harts every)
         (map checkpoint_view checkpoints.items) }
     ensures ok { IfOk result (λ r. r ≡
-        recorded_with settings.now every image.now input.now (map checkpoint_view checkpoints.items)) }
+        recorded_with settings.now every image.now input.now
+        (map checkpoint_view checkpoints.items)) }
     ensures err { IfErr result (λ e. e ≡ refusals.OutOfMemory) }
 {
     Ok(Recording::of(RecordingFields {

@@ -118,8 +118,10 @@ pub(crate) struct Comparing<'a, O> {
 
 impl<'a, O: Observer> Visitor for Comparing<'a, O> {
     ghost knows = { λ first v start rounds done.
-        (v.checkpoints.now ≡ first.checkpoints.now) × (v.every ≡ first.every) × (v.ends ≡ first.ends) ×
-        HasCompared (map checkpoint_view first.checkpoints.now) first.every first.verdict v.verdict start rounds
+        (v.checkpoints.now ≡ first.checkpoints.now) × (v.every ≡ first.every) ×
+        (v.ends ≡ first.ends) ×
+        HasCompared (map checkpoint_view first.checkpoints.now) first.every first.verdict v.verdict
+        start rounds
         done };
 
     ghost has_enough = { λ v u. (v.ends ≡ true) × (v.verdict ≡ Same → ⊥) };

@@ -27,7 +27,8 @@ fn put_with<B: PutBody + Send + Sync, S: Sink, R: Threads + Wait + Sync>(
     formatting: &Formatting<'_, B>,
     out: &mut S,
 ) -> Result<(), RunError>
-    ensures { Puts S.took S.failures (body_text B.bytes B.output B.events) out.old [] result out.new [] }
+    ensures { Puts S.took S.failures (body_text B.bytes B.output B.events) out.old [] result
+        out.new [] }
 {
     if others == 0 {
         put_all_blocks::<B, S, R>(rt, formatting, out)
@@ -45,12 +46,14 @@ fn put_beside<B: PutBody + Send + Sync, S: Sink, R: Threads + Wait + Sync>(
     formatting: &Formatting<'_, B>,
     out: &mut S,
 ) -> Result<(), RunError>
-    ensures { Puts S.took S.failures (body_text B.bytes B.output B.events) out.old [] result out.new [] }
+    ensures { Puts S.took S.failures (body_text B.bytes B.output B.events) out.old [] result
+        out.new [] }
 {
     let mut theirs = || formatting.work(rt);
     let mut ours = || -> Result<(), RunError>
         requires { IsSync R.row × IsSync B.row }
-        ensures { Puts S.took S.failures (body_text B.bytes B.output B.events) out.entry.now [] result out.exit.now [] }
+        ensures { Puts S.took S.failures (body_text B.bytes B.output B.events) out.entry.now []
+            result out.exit.now [] }
     { put_with(rt, others, formatting, out) };
     thread::join_mut(rt, &mut theirs, &mut ours).1
 }
@@ -71,7 +74,8 @@ fn put_body_of<B: PutBody + Send + Sync, S: Sink, R: Threads + Wait + Sync>(
     requires events { trace.now.events ≡ B.events }
     requires some { 0 < workers }
     requires few { workers ≤ MOST_WORKERS }
-    ensures { Puts S.took S.failures (body_of state.now trace.now.events) out.old [] result out.new [] }
+    ensures { Puts S.took S.failures (body_of state.now trace.now.events) out.old [] result
+        out.new [] }
 {
     let formatting = Formatting::<B>::new(alloc, cut, state, trace, workers);
     // The calling thread is a worker, and one without a block isn't needed.
@@ -92,7 +96,8 @@ pub(crate) fn put_body<S: Sink, R: Threads + Wait + Sync>(
 ) -> Result<(), RunError>
     requires some { 0 < workers }
     requires few { workers ≤ MOST_WORKERS }
-    ensures { Puts S.took S.failures (body_of state.now trace.now.events) out.old [] result out.new [] }
+    ensures { Puts S.took S.failures (body_of state.now trace.now.events) out.old [] result
+        out.new [] }
 {
     put_body_of::<Brand, S, R>(rt, workers, alloc, out, cut, state, trace)
 }

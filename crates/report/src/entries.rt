@@ -19,7 +19,8 @@ pub fn write_hart<S: Sink>(
     hart: &Hart,
     out: &mut S,
 ) -> Result<(), RunError>
-    ensures writes { WritesText (hart_text number hart.now) (S.took out.old) (S.failures out.old) result (S.took out.new) (S.failures out.new) }
+    ensures writes { WritesText (hart_text number hart.now) (S.took out.old) (S.failures out.old)
+        result (S.took out.new) (S.failures out.new) }
     ensures memory { result ≡ Err RunError.OutOfMemory → S.took out.new ≡ S.took out.old }
 {
     let mut line = Line::new(alloc);
@@ -33,7 +34,8 @@ pub fn write_hart<S: Sink>(
 ///
 /// `OutOfMemory`: nothing is written then. `SinkFailed`: a beginning of the line is.
 pub fn write_event<S: Sink>(alloc: Global, event: &Event, out: &mut S) -> Result<(), RunError>
-    ensures writes { WritesText (event_text event.now) (S.took out.old) (S.failures out.old) result (S.took out.new) (S.failures out.new) }
+    ensures writes { WritesText (event_text event.now) (S.took out.old) (S.failures out.old) result
+        (S.took out.new) (S.failures out.new) }
     ensures memory { result ≡ Err RunError.OutOfMemory → S.took out.new ≡ S.took out.old }
 {
     let mut line = Line::new(alloc);

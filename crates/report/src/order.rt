@@ -21,7 +21,8 @@ fn put_indexed<S: Sink>(
     indexes: &[usize],
 ) -> Result<(), RunError>
     requires { All (λ index. index < length trace.now.events) indexes.now }
-    ensures { Puts S.took S.failures (indexed_text trace.now.events indexes.now) out.old line.old result out.new line.new }
+    ensures { Puts S.took S.failures (indexed_text trace.now.events indexes.now) out.old line.old
+        result out.new line.new }
 {
     let mut tail = Tail::new();
     for index in indexes {
@@ -31,7 +32,8 @@ fn put_indexed<S: Sink>(
 }
 
 fn put_checked<S: Sink>(out: &mut S, line: &mut Line, checked: bool) -> Result<(), RunError>
-    ensures wrote { Puts S.took S.failures (checked_text checked) out.old line.old result out.new line.new }
+    ensures wrote { Puts S.took S.failures (checked_text checked) out.old line.old result out.new
+        line.new }
     ensures empty { OnOk result (line.new ≡ []) }
 {
     line.text(checked_line(checked))?;
@@ -56,7 +58,8 @@ fn put_order<S: Sink>(
     checked: bool,
 ) -> Result<(), RunError>
     requires { All (λ index. index < length trace.now.events) indexes.now }
-    ensures wrote { Puts S.took S.failures (order_text trace.now.events indexes.now checked) out.old line.old result out.new line.new }
+    ensures wrote { Puts S.took S.failures (order_text trace.now.events indexes.now checked) out.old
+        line.old result out.new line.new }
     ensures empty { OnOk result (line.new ≡ []) }
 {
     put_count(out, line, "order ", indexes.len() as u64)?;

@@ -49,7 +49,8 @@ fn put_block<B: PutBody, S: Sink, R: Wait>(
     out: &mut S,
     piece: Piece,
 ) -> Result<(), RunError>
-    ensures { Puts S.took S.failures (piece_text B.bytes B.events piece) out.old [] result out.new [] }
+    ensures { Puts S.took S.failures (piece_text B.bytes B.events piece) out.old [] result
+        out.new [] }
 {
     let lines = next_lines::<B, R>(rt, formatting, piece)?;
     put_lines(out, &lines)?;
@@ -63,7 +64,8 @@ fn put_memory_blocks<B: PutBody, S: Sink, R: Wait>(
     formatting: &Formatting<'_, B>,
     out: &mut S,
 ) -> Result<(), RunError>
-    ensures { Puts S.took S.failures (memory_rows 0 B.bytes (length B.bytes / 16)) out.old [] result out.new [] }
+    ensures { Puts S.took S.failures (memory_rows 0 B.bytes (length B.bytes / 16)) out.old [] result
+        out.new [] }
 {
     let count = formatting.page_step();
     let mut first = 0;
@@ -96,7 +98,8 @@ fn put_between<S: Sink>(
     output: &[u8],
     events: usize,
 ) -> Result<(), RunError>
-    ensures wrote { Puts S.took S.failures (middle_text output.now events) out.old line.old result out.new line.new }
+    ensures wrote { Puts S.took S.failures (middle_text output.now events) out.old line.old result
+        out.new line.new }
     ensures empty { OnOk result (line.new ≡ []) }
 {
     put_output(out, line, output)?;
@@ -123,7 +126,8 @@ fn put_in_order<B: PutBody, S: Sink, R: Wait>(
     formatting: &Formatting<'_, B>,
     out: &mut S,
 ) -> Result<(), RunError>
-    ensures { Puts S.took S.failures (body_text B.bytes B.output B.events) out.old [] result out.new [] }
+    ensures { Puts S.took S.failures (body_text B.bytes B.output B.events) out.old [] result
+        out.new [] }
 {
     put_memory_blocks::<B, S, R>(rt, formatting, out)?;
     put_middle(
@@ -141,7 +145,8 @@ pub(crate) fn put_all_blocks<B: PutBody, S: Sink, R: Wait>(
     formatting: &Formatting<'_, B>,
     out: &mut S,
 ) -> Result<(), RunError>
-    ensures { Puts S.took S.failures (body_text B.bytes B.output B.events) out.old [] result out.new [] }
+    ensures { Puts S.took S.failures (body_text B.bytes B.output B.events) out.old [] result
+        out.new [] }
 {
     let result = put_in_order::<B, S, R>(rt, formatting, out);
     formatting.end(rt);

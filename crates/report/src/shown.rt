@@ -22,14 +22,16 @@ pub fn write_untraced<S: Sink>(
     state: &RunState<'_>,
     out: &mut S,
 ) -> Result<(), RunError>
-    ensures { WritesText (state_of state.now) (S.took out.old) (S.failures out.old) result (S.took out.new) (S.failures out.new) }
+    ensures { WritesText (state_of state.now) (S.took out.old) (S.failures out.old) result
+        (S.took out.new) (S.failures out.new) }
 {
     let mut line = Line::new(alloc);
     put_untraced(out, &mut line, state)
 }
 
 fn put_untraced<S: Sink>(out: &mut S, line: &mut Line, state: &RunState<'_>) -> Result<(), RunError>
-    ensures wrote { Puts S.took S.failures (state_of state.now) out.old line.old result out.new line.new }
+    ensures wrote { Puts S.took S.failures (state_of state.now) out.old line.old result out.new
+        line.new }
     ensures empty { OnOk result (line.new ≡ []) }
 {
     put_head(out, line, state)?;
@@ -46,14 +48,16 @@ pub fn write_summary<S: Sink>(
     state: &RunState<'_>,
     out: &mut S,
 ) -> Result<(), RunError>
-    ensures { WritesText (summary_of state.now) (S.took out.old) (S.failures out.old) result (S.took out.new) (S.failures out.new) }
+    ensures { WritesText (summary_of state.now) (S.took out.old) (S.failures out.old) result
+        (S.took out.new) (S.failures out.new) }
 {
     let mut line = Line::new(alloc);
     put_summary(out, &mut line, state)
 }
 
 fn put_summary<S: Sink>(out: &mut S, line: &mut Line, state: &RunState<'_>) -> Result<(), RunError>
-    ensures wrote { Puts S.took S.failures (summary_of state.now) out.old line.old result out.new line.new }
+    ensures wrote { Puts S.took S.failures (summary_of state.now) out.old line.old result out.new
+        line.new }
     ensures empty { OnOk result (line.new ≡ []) }
 {
     put_count(out, line, "rounds ", state.rounds as u64)?;
@@ -63,7 +67,8 @@ fn put_summary<S: Sink>(out: &mut S, line: &mut Line, state: &RunState<'_>) -> R
 
 /// Puts the line of how many bytes of output there are, and all that was to be put before it.
 fn put_output_line<S: Sink>(out: &mut S, line: &mut Line, output: &[u8]) -> Result<(), RunError>
-    ensures wrote { Puts S.took S.failures (output_line output.now) out.old line.old result out.new line.new }
+    ensures wrote { Puts S.took S.failures (output_line output.now) out.old line.old result out.new
+        line.new }
     ensures empty { OnOk result (line.new ≡ []) }
 {
     put_count(out, line, "output ", output.len() as u64)?;

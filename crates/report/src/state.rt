@@ -28,14 +28,16 @@ pub(crate) fn put_count<S: Sink>(
     word: &str,
     count: u64,
 ) -> Result<(), RunError>
-    ensures { Puts S.took S.failures (word.now ++ decimal count ++ codes "\n") out.old line.old result out.new line.new }
+    ensures { Puts S.took S.failures (word.now ++ decimal count ++ codes "\n") out.old line.old
+        result out.new line.new }
 {
     count_line(line, word, count)?;
     put_long(out, line)
 }
 
 fn put_hart<S: Sink>(out: &mut S, line: &mut Line, number: u64, hart: &Hart) -> Result<(), RunError>
-    ensures { Puts S.took S.failures (hart_text number hart.now) out.old line.old result out.new line.new }
+    ensures { Puts S.took S.failures (hart_text number hart.now) out.old line.old result out.new
+        line.new }
 {
     hart_lines(line, number, hart)?;
     put_long(out, line)
@@ -49,14 +51,16 @@ pub(crate) fn put_event<S: Sink>(
     tail: &mut Tail,
     event: &Event,
 ) -> Result<(), RunError>
-    ensures { Puts S.took S.failures (event_text event.now) out.old line.old result out.new line.new }
+    ensures { Puts S.took S.failures (event_text event.now) out.old line.old result out.new
+        line.new }
 {
     event_line(line, tail, event)?;
     put_long(out, line)
 }
 
 fn put_events<S: Sink>(out: &mut S, line: &mut Line, trace: &Trace) -> Result<(), RunError>
-    ensures { Puts S.took S.failures (events_text trace.now.events) out.old line.old result out.new line.new }
+    ensures { Puts S.took S.failures (events_text trace.now.events) out.old line.old result out.new
+        line.new }
 {
     let mut tail = Tail::new();
     for event in trace.events() {
@@ -66,7 +70,8 @@ fn put_events<S: Sink>(out: &mut S, line: &mut Line, trace: &Trace) -> Result<()
 }
 
 fn put_trace<S: Sink>(out: &mut S, line: &mut Line, trace: &Trace) -> Result<(), RunError>
-    ensures { Puts S.took S.failures (trace_text trace.now.events) out.old line.old result out.new line.new }
+    ensures { Puts S.took S.failures (trace_text trace.now.events) out.old line.old result out.new
+        line.new }
 {
     put_count(out, line, "trace ", trace.len() as u64)?;
     put_events(out, line, trace)
@@ -77,7 +82,8 @@ pub(crate) fn put_harts<S: Sink>(
     line: &mut Line,
     harts: &[Hart],
 ) -> Result<(), RunError>
-    ensures { Puts S.took S.failures (harts_text 0 harts.now) out.old line.old result out.new line.new }
+    ensures { Puts S.took S.failures (harts_text 0 harts.now) out.old line.old result out.new
+        line.new }
 {
     for (number, hart) in harts.iter().enumerate() {
         put_hart(out, line, number as u64, hart)?;
@@ -88,14 +94,16 @@ pub(crate) fn put_harts<S: Sink>(
 fn put_page<S: Sink>(out: &mut S, line: &mut Line, pages: &Pages, page: u32) -> Result<(), RunError>
     requires page { page < length pages.now.ready }
     requires bytes { 4096 * page + 4096 ≤ length pages.now.memory.bytes }
-    ensures { Puts S.took S.failures (memory_rows (4096 * page) (page_bytes pages.now.memory.bytes page) 256) out.old line.old result out.new line.new }
+    ensures { Puts S.took S.failures (memory_rows (4096 * page)
+        (page_bytes pages.now.memory.bytes page) 256) out.old line.old result out.new line.new }
 {
     page_lines(line, pages, page)?;
     put_long(out, line)
 }
 
 fn put_pages<S: Sink>(out: &mut S, line: &mut Line, pages: &Pages) -> Result<(), RunError>
-    ensures { Puts S.took S.failures (memory_rows 0 pages.now.memory.bytes (length pages.now.memory.bytes / 16)) out.old line.old result out.new line.new }
+    ensures { Puts S.took S.failures (memory_rows 0 pages.now.memory.bytes
+        (length pages.now.memory.bytes / 16)) out.old line.old result out.new line.new }
 {
     for page in 0..pages.count() {
         put_page(out, line, pages, page)?;
@@ -104,14 +112,16 @@ fn put_pages<S: Sink>(out: &mut S, line: &mut Line, pages: &Pages) -> Result<(),
 }
 
 fn put_row<S: Sink>(out: &mut S, line: &mut Line, output: &[u8]) -> Result<(), RunError>
-    ensures { Puts S.took S.failures (bytes_text (take 32 output.now) ++ codes "\n") out.old line.old result out.new line.new }
+    ensures { Puts S.took S.failures (bytes_text (take 32 output.now) ++ codes "\n") out.old
+        line.old result out.new line.new }
 {
     output_row(line, output)?;
     put_long(out, line)
 }
 
 fn put_rows<S: Sink>(out: &mut S, line: &mut Line, output: &[u8]) -> Result<(), RunError>
-    ensures { Puts S.took S.failures (output_rows output.now ((length output.now + 31) / 32)) out.old line.old result out.new line.new }
+    ensures { Puts S.took S.failures (output_rows output.now ((length output.now + 31) / 32))
+        out.old line.old result out.new line.new }
 {
     for row in 0..(output.len() + 31) / 32 {
         put_row(out, line, &output[32 * row..])?;
@@ -124,14 +134,16 @@ pub(crate) fn put_output<S: Sink>(
     line: &mut Line,
     output: &[u8],
 ) -> Result<(), RunError>
-    ensures { Puts S.took S.failures (output_text output.now) out.old line.old result out.new line.new }
+    ensures { Puts S.took S.failures (output_text output.now) out.old line.old result out.new
+        line.new }
 {
     put_count(out, line, "output ", output.len() as u64)?;
     put_rows(out, line, output)
 }
 
 pub(crate) fn put_end<S: Sink>(out: &mut S, line: &mut Line) -> Result<(), RunError>
-    ensures wrote { Puts S.took S.failures (codes "end\n") out.old line.old result out.new line.new }
+    ensures wrote { Puts S.took S.failures (codes "end\n") out.old line.old result out.new
+        line.new }
     ensures empty { OnOk result (line.new ≡ []) }
 {
     line.text("end\n")?;
@@ -166,7 +178,8 @@ fn put_state<S: Sink>(
     state: &RunState<'_>,
     trace: &Trace,
 ) -> Result<(), RunError>
-    ensures wrote { Puts S.took S.failures (report_with state.now trace.now.events) out.old line.old result out.new line.new }
+    ensures wrote { Puts S.took S.failures (report_with state.now trace.now.events) out.old line.old
+        result out.new line.new }
     ensures empty { OnOk result (line.new ≡ []) }
 {
     put_head(out, line, state)?;
@@ -187,7 +200,8 @@ pub fn write_state<S: Sink>(
     trace: &Trace,
     out: &mut S,
 ) -> Result<(), RunError>
-    ensures { WritesText (report_with state.now trace.now.events) (S.took out.old) (S.failures out.old) result (S.took out.new) (S.failures out.new) }
+    ensures { WritesText (report_with state.now trace.now.events) (S.took out.old)
+        (S.failures out.old) result (S.took out.new) (S.failures out.new) }
 {
     let mut line = Line::new(alloc);
     put_state(out, &mut line, state, trace)
@@ -204,7 +218,8 @@ fn put_state_on<S: Sink, R: Threads + Wait + Sync>(
     trace: &Trace,
 ) -> Result<(), RunError>
     requires { workers ≤ MOST_WORKERS }
-    ensures wrote { Puts S.took S.failures (report_with state.now trace.now.events) out.old line.old result out.new line.new }
+    ensures wrote { Puts S.took S.failures (report_with state.now trace.now.events) out.old line.old
+        result out.new line.new }
     ensures empty { OnOk result (line.new ≡ []) }
 {
     if workers <= 1 {
@@ -238,7 +253,8 @@ pub fn write_state_on<S: Sink, R: Threads + Wait + Sync>(
     trace: &Trace,
     out: &mut S,
 ) -> Result<(), RunError>
-    ensures { WritesText (report_with state.now trace.now.events) (S.took out.old) (S.failures out.old) result (S.took out.new) (S.failures out.new) }
+    ensures { WritesText (report_with state.now trace.now.events) (S.took out.old)
+        (S.failures out.old) result (S.took out.new) (S.failures out.new) }
 {
     let mut line = Line::new(alloc);
     let workers = workers.min(MOST_WORKERS) as usize;

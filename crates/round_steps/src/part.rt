@@ -37,7 +37,8 @@ pub(crate) fn add_part(
         (part_counts (tells asked.now before.number) before.hart (harts_in_part
         pages.now.memory.code before.quota (sight_of before.hart pages.now.memory)))) }
     ensures turn { IfOk result (λ t. t ≡ turn_comes before.quota before.hart
-        (harts_in_part pages.now.memory.code before.quota (sight_of before.hart pages.now.memory))) }
+        (harts_in_part pages.now.memory.code before.quota
+        (sight_of before.hart pages.now.memory))) }
 {
     if before.hart.stop.is_some() {
         return Ok(None);

@@ -41,7 +41,8 @@ pub fn nearest<R: Threads + Wait + Sync>(
     requires run { (m : Running) × IsUntraced m machine.old }
     requires rounds { machine.old.rounds + rounds < 2 ^ 32 }
     requires workers { AreWorkers workers }
-    ensures nearest { (m : Running) → IsUntraced m machine.old → m.code ≡ code.now → IfOk result (FindsNearest way
+    ensures nearest { (m : Running) → IsUntraced m machine.old → m.code ≡ code.now →
+        IfOk result (FindsNearest way
         telling.now.asked telling.now.watches.items m rounds here.now machine.old machine.new) }
     ensures refused { IfErr result (λ e. e ≡ refusals.OutOfMemory) }
 {
@@ -84,8 +85,10 @@ fn nearest_stop<R: Threads + Wait + Sync>(
     requires rounds { machine.old.rounds + rounds < 2 ^ 32 }
     requires workers { AreWorkers workers }
     requires before { before.old ≡ machine.old }
-    requires stops { (i : ℕ) (h : Hart) → is_some h.stop ≡ false → tells telling.now.asked i h ≡ false }
-    ensures nearest { (m : Running) → IsUntraced m machine.old → m.code ≡ code.now → IfOk result (FindsNearest way
+    requires stops { (i : ℕ) (h : Hart) → is_some h.stop ≡ false →
+        tells telling.now.asked i h ≡ false }
+    ensures nearest { (m : Running) → IsUntraced m machine.old → m.code ≡ code.now →
+        IfOk result (FindsNearest way
         telling.now.asked telling.now.watches.items m rounds here.now machine.old machine.new) }
     ensures refused { IfErr result (λ e. e ≡ refusals.OutOfMemory) }
 {
@@ -121,7 +124,8 @@ fn nearest_in<R: Threads + Wait + Sync>(
     requires run { (m : Running) × IsUntraced m machine.old }
     requires rounds { machine.old.rounds + rounds < 2 ^ 32 }
     requires workers { AreWorkers workers }
-    ensures nearest { (m : Running) → IsUntraced m machine.old → m.code ≡ code.now → IfOk result (FindsNearest way
+    ensures nearest { (m : Running) → IsUntraced m machine.old → m.code ≡ code.now →
+        IfOk result (FindsNearest way
         asked.now watches.now m rounds here.now machine.old machine.new) }
     ensures refused { IfErr result (λ e. e ≡ refusals.OutOfMemory) }
 {

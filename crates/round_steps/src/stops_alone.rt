@@ -12,7 +12,8 @@ use std::alloc::Global;
 
 /// Whether nothing is told of a hart that runs.
 pub(crate) fn asks_of_stops_alone(asked: &Asked) -> bool
-    ensures { result ≡ true → (i : ℕ) (h : Hart) → is_some h.stop ≡ false → tells asked.now i h ≡ false }
+    ensures { result ≡ true → (i : ℕ) (h : Hart) → is_some h.stop ≡ false →
+        tells asked.now i h ≡ false }
 {
     match asked.each {
         Some(_) => false,
@@ -51,7 +52,8 @@ pub(crate) fn have_no_new_stop(harts: u32, before: &[Hart], after: &[Hart], aske
 
 /// Whether hart `number` ran and something is told of it now.
 fn is_told_anew(number: u32, before: Option<&Hart>, after: Option<&Hart>, asked: &Asked) -> bool
-    ensures { result ≡ tells_anew asked.now number (option_map (λ h. h.now) before.entry) (option_map (λ h. h.now) after.entry) }
+    ensures { result ≡ tells_anew asked.now number (option_map (λ h. h.now) before.entry)
+        (option_map (λ h. h.now) after.entry) }
 {
     match (before, after) {
         (Some(before), Some(after)) => before.stop.is_none() && asked.tells(number, after),

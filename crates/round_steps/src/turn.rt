@@ -67,7 +67,8 @@ fn add_turn(
     asked: &Asked,
     found: &mut Vec<Place>,
 ) -> Result<(), OutOfMemory>
-    ensures { OnOk result (found.new.items ≡ found.old.items ++ option_map_or (λ n. places Serial number
+    ensures { OnOk result (found.new.items ≡ found.old.items
+        ++ option_map_or (λ n. places Serial number
         (hits_from (tells asked.now number) n along.now)) turn []) }
 {
     match turn {

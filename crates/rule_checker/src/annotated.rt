@@ -53,7 +53,8 @@ pub(crate) fn first_by_kind(
 ) -> Result<Option<usize>, OutOfMemory>
     requires formed { All HasForm events.now }
     requires ranked { IsRanking events.now order.now ranks.now }
-    ensures { IfOk result (λ first. MatchOption first (RespectsKinds events.now (order_position order.now))
+    ensures { IfOk result (λ first.
+        MatchOption first (RespectsKinds events.now (order_position order.now))
         (IsFirstViolation events.now (RespectsKindsAt events.now (order_position order.now)))) }
 {
     let mut harts = vec![in alloc; NO_KINDS; 256]?;

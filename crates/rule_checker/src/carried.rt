@@ -47,9 +47,13 @@ pub(crate) fn first_by_dependency(
     requires lists { ListsOperations events.now order.now }
     requires ranked { IsRanking events.now order.now ranks.now }
     requires along { length instructions.now ≡ length events.now }
-    requires sourced { AreSources events.now order.now (MaySee events.now (order_position order.now)) sources.now.items }
-    ensures { IfOk result (λ first. MatchOption first (RespectsDependencies instructions.now events.now (order_position order.now))
-        (IsFirstViolation events.now (RespectsAt instructions.now events.now (order_position order.now)))) }
+    requires sourced { AreSources events.now order.now
+        (MaySee events.now (order_position order.now)) sources.now.items }
+    ensures { IfOk result (λ first.
+        MatchOption first (RespectsDependencies instructions.now events.now
+        (order_position order.now))
+        (IsFirstViolation events.now (RespectsAt instructions.now events.now
+        (order_position order.now)))) }
 {
     let mut harts = vec![in alloc; NONE_CARRIED; 256]?;
     // of each event so far, what its address and data depend on
@@ -169,7 +173,8 @@ fn may_forward(
     requires lists { ListsOperations events.now order.now }
     requires standing { position ≡ order_position order.now i }
     requires operands { length operands.now ≡ i }
-    requires sourced { AreSources events.now order.now (MaySee events.now (order_position order.now)) sources.now.items }
+    requires sourced { AreSources events.now order.now
+        (MaySee events.now (order_position order.now)) sources.now.items }
     ensures { IsTrue result ↔ MayForwardAll events.now order.now operands.now
         (λ x. source_of order.now sources.now.items i x) i position }
 {

@@ -31,7 +31,8 @@ pub fn check_instructions(
 ) -> Result<bool, OutOfMemory>
     requires formed { All HasForm events.now }
     requires along { length instructions.now ≡ length events.now }
-    ensures { IfOk result (λ yes. IsTrue yes ↔ MeetsRvwmoBy (DependencyRule instructions.now events.now)
+    ensures { IfOk result (λ yes.
+        IsTrue yes ↔ MeetsRvwmoBy (DependencyRule instructions.now events.now)
         events.now (opening_at opening.now.opening) order.now.0.items) }
 {
     meets_rvwmo(alloc, opening, instructions, events, &order.0)
@@ -47,7 +48,8 @@ fn meets_rvwmo(
 ) -> Result<bool, OutOfMemory>
     requires formed { All HasForm events.now }
     requires along { length instructions.now ≡ length events.now }
-    ensures { IfOk result (λ yes. IsTrue yes ↔ MeetsRvwmoBy (DependencyRule instructions.now events.now)
+    ensures { IfOk result (λ yes.
+        IsTrue yes ↔ MeetsRvwmoBy (DependencyRule instructions.now events.now)
         events.now (opening_at opening.now.opening) order.now) }
 {
     match positions(alloc, events, order)? {
@@ -69,7 +71,10 @@ fn meets_all(
     requires along { length instructions.now ≡ length events.now }
     requires lists { ListsOperations events.now order.now }
     requires ranked { IsRanking events.now order.now ranks.now }
-    ensures { IfOk result (λ yes. IsTrue yes ↔ (PreservedOrderBy (DependencyRule instructions.now events.now (order_position order.now)) events.now (order_position order.now) ×
+    ensures { IfOk result (λ yes.
+        IsTrue yes ↔
+        (PreservedOrderBy (DependencyRule instructions.now events.now (order_position order.now))
+        events.now (order_position order.now) ×
         LoadValueAxiom events.now (opening_at opening.now.opening) (order_position order.now) ×
         AtomicityAxiom events.now (order_position order.now))) }
 {

@@ -31,8 +31,10 @@ pub(crate) fn first_by_byte(
     requires formed { All HasForm events.now }
     requires lists { ListsOperations events.now order.now }
     requires ranked { IsRanking events.now order.now ranks.now }
-    requires sourced { AreSources events.now order.now (MaySee events.now (order_position order.now)) sources.now.items }
-    ensures { IfOk result (λ first. MatchOption first (RespectsBytes events.now (order_position order.now))
+    requires sourced { AreSources events.now order.now
+        (MaySee events.now (order_position order.now)) sources.now.items }
+    ensures { IfOk result (λ first.
+        MatchOption first (RespectsBytes events.now (order_position order.now))
         (IsFirstViolation events.now (RespectsBytesAt events.now (order_position order.now)))) }
 {
     let mut touched = BTreeMap::new(alloc);
@@ -88,7 +90,8 @@ fn note_seen(
     requires fits { address_of access.now + bytes_of access.now < 2 ^ 64 }
     requires within { loads access.now ≡ true → position < length sources.now.items }
     ensures { OnOk result ((h x : ℕ) → bound seen.new h x ≡ (if h == owner && reads access.now x
-        then max (bound seen.old h x) (source_at sources.now.items position x) else bound seen.old h x)) }
+        then max (bound seen.old h x) (source_at sources.now.items position x) else bound seen.old h
+        x)) }
 {
     if !access.loads() {
         return Ok(());
@@ -111,7 +114,8 @@ fn may_load(
     requires formed { All HasForm events.now }
     requires lists { ListsOperations events.now order.now }
     requires standing { position ≡ order_position order.now i }
-    requires sourced { AreSources events.now order.now (MaySee events.now (order_position order.now)) sources.now.items }
+    requires sourced { AreSources events.now order.now
+        (MaySee events.now (order_position order.now)) sources.now.items }
     ensures { IsTrue result ↔ MayLoad events.now order.now (λ x. bound seen.now hart x)
         (λ x. source_of order.now sources.now.items i x) i position }
 {

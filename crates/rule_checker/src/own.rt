@@ -23,7 +23,8 @@ pub fn sources_of_loads(
     requires formed { All HasForm events.now }
     requires lists { ListsOperations events.now order.now }
     requires ranked { IsRanking events.now order.now ranks.now }
-    ensures { IfOk result (λ s. AreSources events.now order.now (MaySee events.now (order_position order.now)) s.items) }
+    ensures { IfOk result (λ s.
+        AreSources events.now order.now (MaySee events.now (order_position order.now)) s.items) }
 {
     let own = own_sources(alloc, events, order, ranks)?;
     all_sources(alloc, events, order, own)
@@ -60,7 +61,8 @@ fn note_load(sources: &mut Sources, position: usize, access: &Access, from: &Bou
     ensures len { length sources.new.items ≡ length sources.old.items }
     ensures others { (p : ℕ) → (loads access.now ≡ true → p ≢ position) →
         row_of sources.new.items p ≡ row_of sources.old.items p }
-    ensures noted { (x : ℕ) → reads access.now x ≡ true → source_at sources.new.items position x ≡ bound from.now owner x }
+    ensures noted { (x : ℕ) → reads access.now x ≡ true →
+        source_at sources.new.items position x ≡ bound from.now owner x }
 {
     if access.loads() {
         sources[position] = bounds_at(from, owner, access.address(), access.byte_count());

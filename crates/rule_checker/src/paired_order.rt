@@ -18,7 +18,9 @@ pub(crate) fn first_by_pair(
 ) -> Result<Option<usize>, OutOfMemory>
     requires formed { All HasForm events.now }
     requires ranked { IsRanking events.now order.now ranks.now }
-    ensures { IfOk result (λ first. MatchOption first (RespectsAll events.now (RespectsPairAt events.now (order_position order.now)))
+    ensures { IfOk result (λ first.
+        MatchOption first (RespectsAll events.now
+        (RespectsPairAt events.now (order_position order.now)))
         (IsFirstViolation events.now (RespectsPairAt events.now (order_position order.now)))) }
 {
     let reserved = last_reserved(alloc, events)?;

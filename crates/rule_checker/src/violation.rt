@@ -38,10 +38,14 @@ pub fn first_violation(
     requires along { length instructions.now ≡ length events.now }
     requires lists { ListsOperations events.now order.now }
     requires ranked { IsRanking events.now order.now ranks.now }
-    requires sourced { AreSources events.now order.now (MaySee events.now (order_position order.now)) sources.now.items }
+    requires sourced { AreSources events.now order.now
+        (MaySee events.now (order_position order.now)) sources.now.items }
     ensures { IfOk result (λ first. MatchOption first
-        (PreservedOrderBy (DependencyRule instructions.now events.now (order_position order.now)) events.now (order_position order.now))
-        (IsFirstViolation events.now (PreservedAt (DependencyRule instructions.now events.now (order_position order.now)) events.now (order_position order.now)))) }
+        (PreservedOrderBy (DependencyRule instructions.now events.now (order_position order.now))
+        events.now (order_position order.now))
+        (IsFirstViolation events.now (PreservedAt
+        (DependencyRule instructions.now events.now (order_position order.now)) events.now
+        (order_position order.now)))) }
 {
     let by_kind = first_by_kind(alloc, events, order, ranks)?;
     let by_byte = first_by_byte(alloc, events, order, ranks, sources)?;

@@ -38,7 +38,8 @@ pub fn record_command<F: Files, M: Messages, P: Observer + ProgressLine, R: Thre
     messages: &M,
 ) -> Result<ExitStatus, RecordFailure>
     // The file that the line names was given the recording of the run that the line asks for, of all its rounds or of those that it needs.
-    ensures records { IfOk result (λ status. (a : AskedRun (F.holds files.old) (F.begins files.old) asked.now.run) × (n : ℕ) ×
+    ensures records { IfOk result (λ status.
+        (a : AskedRun (F.holds files.old) (F.begins files.old) asked.now.run) × (n : ℕ) ×
         AreRecorded asked.now.until_stopped a.made.settings a.image a.input n ×
         F.was_given files.old files.new asked.now.out.now
         (recorded_text (for_rounds n a.made.settings) asked.now.every a.image a.input a.made.plan) ×
@@ -46,7 +47,8 @@ pub fn record_command<F: Files, M: Messages, P: Observer + ProgressLine, R: Thre
     // Else no file was written, or this one couldn't be.
     ensures unwritten { IfErr result (λ f. (files.new ≡ files.old) ⊎
         IsUnwritten (F.wasnt_given files.new) asked.now.out.now f) }
-    ensures errors { IfErr result (EndsRecord (F.holds files.old) (F.begins files.old) (F.lacks files.old)
+    ensures errors { IfErr result (EndsRecord (F.holds files.old) (F.begins files.old)
+        (F.lacks files.old)
         (F.wasnt_given files.new) asked.now) }
 {
     let given = read_run(files, alloc, &asked.run)?;
@@ -65,9 +67,12 @@ fn record_given<P: Observer + ProgressLine, R: Threads + Wait + Sync>(
     progress: &mut P,
 ) -> Result<Recording, RunFailure>
     ensures records { IfOk result (λ recorded.
-        (r : SetRun asked.now.run.program given.now.plan.text.items given.now.plan.budget) × (n : ℕ) ×
-        AreRecorded asked.now.until_stopped r.settings given.now.program.image.items given.now.program.input.items n ×
-        (recorded ≡ recorded_of (for_rounds n r.settings) asked.now.every given.now.program.image.items
+        (r : SetRun asked.now.run.program given.now.plan.text.items given.now.plan.budget) ×
+        (n : ℕ) ×
+        AreRecorded asked.now.until_stopped r.settings given.now.program.image.items
+        given.now.program.input.items n ×
+        (recorded ≡ recorded_of (for_rounds n r.settings) asked.now.every
+        given.now.program.image.items
         given.now.program.input.items r.plan)) }
     ensures errors { IfErr result (RefusedSetRun asked.now.run.program given.now.plan.text.items
         given.now.plan.budget given.now.program.image.items ⊥) }
@@ -88,9 +93,11 @@ fn record_guest<P: Observer, R: Threads + Wait + Sync>(
     asked: &Record<'_>,
     progress: &mut P,
 ) -> Result<Recording, RunError>
-    ensures records { IfOk result (λ recorded. (plan : Planned) × IsPlan settings.now plan × (n : ℕ) ×
+    ensures records { IfOk result (λ recorded. (plan : Planned) × IsPlan settings.now plan ×
+        (n : ℕ) ×
         AreRecorded asked.now.until_stopped settings.now guest.now.image.now guest.now.input.now n ×
-        (recorded ≡ recorded_of (for_rounds n settings.now) asked.now.every guest.now.image.now guest.now.input.now plan)) }
+        (recorded ≡ recorded_of (for_rounds n settings.now) asked.now.every guest.now.image.now
+        guest.now.input.now plan)) }
     ensures in_order { RefusedInOrder settings.now guest.now.image.now result }
     ensures errors { settings_fault settings.now ≡ None →
         IfErr result (IsReason settings.now guest.now.image.now) }
@@ -125,7 +132,8 @@ fn rounds_recorded<P: Observer, R: Threads + Wait + Sync>(
     asked: &Record<'_>,
     progress: &mut P,
 ) -> Result<u32, RunError>
-    ensures rounds { IfOk result (AreRecorded asked.now.until_stopped settings.now guest.now.image.now guest.now.input.now) }
+    ensures rounds { IfOk result (AreRecorded asked.now.until_stopped settings.now
+        guest.now.image.now guest.now.input.now) }
     ensures in_order { OnErr result (RefusedInOrder settings.now guest.now.image.now result) }
     ensures errors { settings_fault settings.now ≡ None →
         IfErr result (IsReason settings.now guest.now.image.now) }

@@ -27,11 +27,13 @@ pub fn migrate_command<F: Files>(
     // The file that the line names was given, in the newest version, the recording that the other one holds.
     ensures migrates { IfOk result (λ status. (r : Recorded) ×
         HoldsRecording (F.marked files.old) asked.now.recording.now r ×
-        F.was_given files.old files.new asked.now.out.now (migrated_text r) × (status ≡ statuses.Done)) }
+        F.was_given files.old files.new asked.now.out.now (migrated_text r) ×
+        (status ≡ statuses.Done)) }
     // Else no file was written, or this one couldn't be.
     ensures unwritten { IfErr result (λ f. (files.new ≡ files.old) ⊎
         IsUnwritten (F.wasnt_given files.new) asked.now.out.now f) }
-    ensures errors { IfErr result (EndsMigrate (F.marked files.old) (F.lacks files.old) (F.wasnt_given files.new)
+    ensures errors { IfErr result (EndsMigrate (F.marked files.old) (F.lacks files.old)
+        (F.wasnt_given files.new)
         asked.now) }
 {
     let recorded = read_recording_of(files, alloc, asked.recording)?;

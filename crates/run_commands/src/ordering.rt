@@ -29,18 +29,23 @@ pub fn order_command<F: Files, O: Output, P: Observer + ProgressLine, R: Threads
     out: &mut O,
 ) -> Result<ExitStatus, RunFailure>
     // All that was printed is an order of the memory operations of the run that the line asks for.
-    ensures orders { IfOk result (λ status. (a : AskedRun (F.holds files.now) (F.begins files.now) run.now) × (indices : List ℕ) ×
-        IsOrderOfRun a.made.settings a.image a.input a.made.plan indices × (O.took out.new ≡ O.took out.old ++
-        ordered_text a.made.settings a.image a.input a.made.plan indices) × O.is_out out.new × (status ≡ statuses.Done)) }
+    ensures orders { IfOk result (λ status.
+        (a : AskedRun (F.holds files.now) (F.begins files.now) run.now) × (indices : List ℕ) ×
+        IsOrderOfRun a.made.settings a.image a.input a.made.plan indices ×
+        (O.took out.new ≡ O.took out.old ++
+        ordered_text a.made.settings a.image a.input a.made.plan indices) × O.is_out out.new ×
+        (status ≡ statuses.Done)) }
     // Else nothing was printed, or a beginning of such a text.
     ensures begun { OnErr result ((O.took out.new ≡ O.took out.old) ⊎
         ((a : AskedRun (F.holds files.now) (F.begins files.now) run.now) × (indices : List ℕ) ×
-        IsOrderOfRun a.made.settings a.image a.input a.made.plan indices × BeganText (O.took out.old) (O.took out.new)
+        IsOrderOfRun a.made.settings a.image a.input a.made.plan indices ×
+        BeganText (O.took out.old) (O.took out.new)
         (ordered_text a.made.settings a.image a.input a.made.plan indices))) }
     // After a refusal for another cause than memory and the output nothing was printed.
     ensures unprinted { IfErr result (λ f.
         IsUnprinted (failure_number f) (O.took out.old) (O.took out.new)) }
-    ensures errors { IfErr result (EndsFor (F.holds files.now) (F.begins files.now) (F.lacks files.now) run.now
+    ensures errors { IfErr result (EndsFor (F.holds files.now) (F.begins files.now)
+        (F.lacks files.now) run.now
         (HasFailed O.failures O.is_stuck out.old out.new)) }
 {
     let given = read_run(files, alloc, run)?;
@@ -58,18 +63,25 @@ fn order_given<O: Output, P: Observer + ProgressLine, R: Threads + Wait + Sync>(
     progress: &mut P,
     out: &mut O,
 ) -> Result<(), RunFailure>
-    ensures orders { OnOk result ((r : SetRun run.now.program given.now.plan.text.items given.now.plan.budget) ×
-        (indices : List ℕ) × IsOrderOfRun r.settings given.now.program.image.items given.now.program.input.items r.plan indices ×
+    ensures orders { OnOk result
+        ((r : SetRun run.now.program given.now.plan.text.items given.now.plan.budget) ×
+        (indices : List ℕ) ×
+        IsOrderOfRun r.settings given.now.program.image.items given.now.program.input.items r.plan
+        indices ×
         (O.took out.new ≡ O.took out.old ++ ordered_text r.settings given.now.program.image.items
         given.now.program.input.items r.plan indices)) }
     ensures begun { OnErr result ((O.took out.new ≡ O.took out.old) ⊎
-        ((r : SetRun run.now.program given.now.plan.text.items given.now.plan.budget) × (indices : List ℕ) ×
-        IsOrderOfRun r.settings given.now.program.image.items given.now.program.input.items r.plan indices ×
-        BeganText (O.took out.old) (O.took out.new) (ordered_text r.settings given.now.program.image.items
+        ((r : SetRun run.now.program given.now.plan.text.items given.now.plan.budget) ×
+        (indices : List ℕ) ×
+        IsOrderOfRun r.settings given.now.program.image.items given.now.program.input.items r.plan
+        indices ×
+        BeganText (O.took out.old) (O.took out.new)
+        (ordered_text r.settings given.now.program.image.items
         given.now.program.input.items r.plan indices))) }
     ensures unprinted { IfErr result (λ f.
         IsUnprinted (failure_number f) (O.took out.old) (O.took out.new)) }
-    ensures errors { IfErr result (RefusedSetRun run.now.program given.now.plan.text.items given.now.plan.budget
+    ensures errors { IfErr result (RefusedSetRun run.now.program given.now.plan.text.items
+        given.now.plan.budget
         given.now.program.image.items (HasFailed O.failures O.is_stuck out.old out.new)) }
 {
     let settings = settings_of(&run.program, &given.plan);

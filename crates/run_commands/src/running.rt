@@ -46,18 +46,22 @@ pub fn run_command<
     messages: &M,
 ) -> Result<ExitStatus, RunFailure>
     // All that was printed is what the line asks for of the run that it asks for, and the status is that of how its harts end.
-    ensures runs { IfOk result (λ status. (a : AskedRun (F.holds files.now) (F.begins files.now) asked.now.run) ×
-        (O.took out.new ≡ O.took out.old ++ printed_text asked.now a.made.settings a.image a.input a.made.plan) ×
+    ensures runs { IfOk result (λ status.
+        (a : AskedRun (F.holds files.now) (F.begins files.now) asked.now.run) ×
+        (O.took out.new ≡ O.took out.old ++ printed_text asked.now a.made.settings a.image a.input
+        a.made.plan) ×
         O.is_out out.new × (status ≡ run_status asked.now.strict
         (end_of (after_run a.made.settings a.image a.input a.made.plan).state.harts))) }
     // Else nothing was printed, or a beginning of that.
     ensures begun { OnErr result ((O.took out.new ≡ O.took out.old) ⊎
-        ((a : AskedRun (F.holds files.now) (F.begins files.now) asked.now.run) × BeganText (O.took out.old) (O.took out.new)
+        ((a : AskedRun (F.holds files.now) (F.begins files.now) asked.now.run) ×
+        BeganText (O.took out.old) (O.took out.new)
         (printed_text asked.now a.made.settings a.image a.input a.made.plan))) }
     // After a refusal for another cause than memory and the output nothing was printed.
     ensures unprinted { IfErr result (λ f.
         IsUnprinted (failure_number f) (O.took out.old) (O.took out.new)) }
-    ensures errors { IfErr result (EndsFor (F.holds files.now) (F.begins files.now) (F.lacks files.now) asked.now.run
+    ensures errors { IfErr result (EndsFor (F.holds files.now) (F.begins files.now)
+        (F.lacks files.now) asked.now.run
         (HasFailed O.failures O.is_stuck out.old out.new)) }
 {
     let given = read_run(files, alloc, &asked.run)?;
@@ -74,13 +78,18 @@ fn run_given<O: Output, M: Messages, P: Observer + ProgressLine, R: Threads + Wa
     out: &mut O,
     messages: &M,
 ) -> Result<ExitStatus, RunFailure>
-    ensures runs { IfOk result (λ status. (r : SetRun asked.now.run.program given.now.plan.text.items given.now.plan.budget) ×
-        (O.took out.new ≡ O.took out.old ++ printed_text asked.now r.settings given.now.program.image.items
-        given.now.program.input.items r.plan) × O.is_out out.new × (status ≡ run_status asked.now.strict
-        (end_of (after_run r.settings given.now.program.image.items given.now.program.input.items r.plan).state.harts))) }
+    ensures runs { IfOk result (λ status.
+        (r : SetRun asked.now.run.program given.now.plan.text.items given.now.plan.budget) ×
+        (O.took out.new ≡ O.took out.old ++ printed_text asked.now r.settings
+        given.now.program.image.items
+        given.now.program.input.items r.plan) × O.is_out out.new ×
+        (status ≡ run_status asked.now.strict
+        (end_of (after_run r.settings given.now.program.image.items given.now.program.input.items
+        r.plan).state.harts))) }
     ensures begun { OnErr result ((O.took out.new ≡ O.took out.old) ⊎
         ((r : SetRun asked.now.run.program given.now.plan.text.items given.now.plan.budget) ×
-        BeganText (O.took out.old) (O.took out.new) (printed_text asked.now r.settings given.now.program.image.items
+        BeganText (O.took out.old) (O.took out.new)
+        (printed_text asked.now r.settings given.now.program.image.items
         given.now.program.input.items r.plan))) }
     ensures unprinted { IfErr result (λ f.
         IsUnprinted (failure_number f) (O.took out.old) (O.took out.new)) }
@@ -107,17 +116,22 @@ fn print_given<O: Output, P: Observer + ProgressLine, R: Threads + Wait + Sync>(
     progress: &mut P,
     out: &mut O,
 ) -> Result<RunEnd, RunFailure>
-    ensures runs { IfOk result (λ end. (r : SetRun asked.now.run.program given.now.plan.text.items given.now.plan.budget) ×
-        (O.took out.new ≡ O.took out.old ++ printed_text asked.now r.settings given.now.program.image.items
-        given.now.program.input.items r.plan) × (end ≡ end_of (after_run r.settings given.now.program.image.items
+    ensures runs { IfOk result (λ end.
+        (r : SetRun asked.now.run.program given.now.plan.text.items given.now.plan.budget) ×
+        (O.took out.new ≡ O.took out.old ++ printed_text asked.now r.settings
+        given.now.program.image.items
+        given.now.program.input.items r.plan) ×
+        (end ≡ end_of (after_run r.settings given.now.program.image.items
         given.now.program.input.items r.plan).state.harts)) }
     ensures begun { OnErr result ((O.took out.new ≡ O.took out.old) ⊎
         ((r : SetRun asked.now.run.program given.now.plan.text.items given.now.plan.budget) ×
-        BeganText (O.took out.old) (O.took out.new) (printed_text asked.now r.settings given.now.program.image.items
+        BeganText (O.took out.old) (O.took out.new)
+        (printed_text asked.now r.settings given.now.program.image.items
         given.now.program.input.items r.plan))) }
     ensures unprinted { IfErr result (λ f.
         IsUnprinted (failure_number f) (O.took out.old) (O.took out.new)) }
-    ensures errors { IfErr result (RefusedSetRun asked.now.run.program given.now.plan.text.items given.now.plan.budget
+    ensures errors { IfErr result (RefusedSetRun asked.now.run.program given.now.plan.text.items
+        given.now.plan.budget
         given.now.program.image.items (HasFailed O.failures O.is_stuck out.old out.new)) }
 {
     let settings = settings_of(&asked.run.program, &given.plan);

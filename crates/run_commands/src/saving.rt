@@ -30,7 +30,8 @@ pub(crate) fn save<F: Files>(
     recorded: &Recording,
     path: &str,
 ) -> Result<(), RecordFailure>
-    ensures given { OnOk result (F.was_given files.old files.new path.now (recording.spelled recorded.now)) }
+    ensures given { OnOk result (F.was_given files.old files.new path.now
+        (recording.spelled recorded.now)) }
     ensures errors { IfErr result (IsUnwritten (F.wasnt_given files.new) path.now) }
 {
     match files.replace(path, &RecordingText { recorded }) {

@@ -16,7 +16,8 @@ pub fn choose(
     hart: Option<u32>,
     only_stores: bool,
 ) -> Result<Vec<Event>, OutOfMemory>
-    ensures { IfOk result (λ chosen. chosen.items ≡ filter (is_chosen hart only_stores) events.items) }
+    ensures { IfOk result (λ chosen. chosen.items
+        ≡ filter (is_chosen hart only_stores) events.items) }
 {
     let mut chosen = Vec::new(alloc);
     for event in events {

@@ -37,7 +37,8 @@ impl<'a, S: Search> Watcher<'a, S> {
     pub(crate) fn new(alloc: Global, sought: Sought<'a>) -> Watcher<'a, S>
         requires ranges { sought.ranges.now ≡ S.ranges }
         requires within { sought.within ≡ S.within }
-        ensures { HasWatched S.ranges S.within result.sought result.found.items result.last.events [] }
+        ensures { HasWatched S.ranges S.within result.sought result.found.items
+            result.last.events [] }
     {
         Watcher {
             alloc,
@@ -51,7 +52,8 @@ impl<'a, S: Search> Watcher<'a, S> {
     /// The events that are sought, of all that it has seen.
     pub(crate) fn into_found(mut self) -> Result<Vec<Event>, OutOfMemory>
         ensures { (es : List Happened) → HasWatched S.ranges S.within self.entry.sought
-            self.entry.found.items self.entry.last.events es → IfOk result (λ v. v.items ≡ sought_in S.within S.ranges es) }
+            self.entry.found.items self.entry.last.events es →
+            IfOk result (λ v. v.items ≡ sought_in S.within S.ranges es) }
     {
         self.look_through()?;
         Ok(self.found)

@@ -128,7 +128,8 @@ fn index_for(
     requires placed { ArePlaced lines.old.items indices.old.entries }
     requires chained { AreChained (length lines.old.items) lines.old.items latest.old.items }
     ensures ok { IfOk result (λ index.
-        IsOpen number index lines.old.items lines.new.items indices.old.entries indices.new.entries) }
+        IsOpen number index lines.old.items lines.new.items indices.old.entries
+        indices.new.entries) }
     ensures chained { AreChained (length lines.new.items) lines.new.items latest.new.items }
     ensures ordered { IsOrdered nat_cmp indices.old → IsOrdered nat_cmp indices.new }
     ensures near { number < 2 ^ 58 → All (λ k. k < 2 ^ 58) (keys_of indices.old.entries) →

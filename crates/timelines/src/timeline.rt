@@ -129,7 +129,8 @@ impl Timeline {
         ensures stays { self.new ≡ self.old }
         ensures next { (m : Running) → IsUntraced m self.old.start → IfOk result (λ x. x ≡
             next_point_of telling.now.asked telling.now.watches.items
-            (after_rounds here.now.moment.rounds m) (self.old.rounds - here.now.moment.rounds) here.now) }
+            (after_rounds here.now.moment.rounds m) (self.old.rounds - here.now.moment.rounds)
+            here.now) }
         ensures refused { IfErr result (λ e. e ≡ refusals.OutOfMemory) }
     {
         let begin = here.moment.rounds;
@@ -154,7 +155,8 @@ impl Timeline {
         requires workers { AreWorkers workers }
         ensures stays { self.new ≡ self.old }
         ensures next { (m : Running) → IsUntraced m self.old.start → IfOk result (λ x. x ≡
-            next_point_of telling.now.asked telling.now.watches.items (after_rounds begin m) count here.now) }
+            next_point_of telling.now.asked telling.now.watches.items (after_rounds begin m) count
+            here.now) }
         ensures refused { IfErr result (λ e. e ≡ refusals.OutOfMemory) }
     {
         let mut machine = self.machine_at(rt, begin, workers)?;
@@ -241,8 +243,10 @@ impl Timeline {
         requires within { machine.old.rounds + rounds ≤ self.old.rounds }
         requires workers { AreWorkers workers }
         ensures stays { self.new ≡ self.old }
-        ensures nearest { (m : Running) → IsUntraced m self.old.start → IfOk result (λ x. x ≡ nearest_point_of way
-            telling.now.asked telling.now.watches.items (after_rounds machine.old.rounds m) rounds here.now) }
+        ensures nearest { (m : Running) → IsUntraced m self.old.start →
+            IfOk result (λ x. x ≡ nearest_point_of way
+            telling.now.asked telling.now.watches.items (after_rounds machine.old.rounds m) rounds
+            here.now) }
         ensures refused { IfErr result (λ e. e ≡ refusals.OutOfMemory) }
     {
         let code = self.code();
@@ -268,7 +272,8 @@ impl Timeline {
         requires within { point.now.moment.rounds ≤ self.old.rounds }
         requires workers { AreWorkers workers }
         ensures stays { self.new ≡ self.old }
-        ensures sight { (m : Running) → IsUntraced m self.old.start → IfOk result (λ s. s ≡ seen m point.now number) }
+        ensures sight { (m : Running) → IsUntraced m self.old.start →
+            IfOk result (λ s. s ≡ seen m point.now number) }
         ensures refused { IfErr result (λ e. e ≡ refusals.OutOfMemory) }
     {
         let moment = point.moment;
@@ -295,9 +300,11 @@ impl Timeline {
         requires within { point.now.moment.rounds ≤ self.old.rounds }
         requires workers { AreWorkers workers }
         ensures stays { self.new ≡ self.old }
-        ensures stores { (m : Running) → IsUntraced m self.old.start → IfOk result (λ p. p.stores.items ≡ own_stores
+        ensures stores { (m : Running) → IsUntraced m self.old.start →
+            IfOk result (λ p. p.stores.items ≡ own_stores
             (after_rounds point.now.moment.rounds m) point.now.moment.place number) }
-        ensures waits { (m : Running) → IsUntraced m self.old.start → IfOk result (λ p. p.waits ≡ waits_at
+        ensures waits { (m : Running) → IsUntraced m self.old.start →
+            IfOk result (λ p. p.waits ≡ waits_at
             (after_rounds point.now.moment.rounds m) point.now.moment.place number) }
         ensures refused { IfErr result (λ e. e ≡ refusals.OutOfMemory) }
     {
@@ -402,7 +409,8 @@ fn keep_far(
     apart: u32,
     machine: &mut UntracedMachine,
 ) -> Result<(), RunError>
-    ensures there { (start : Untraced) → All (IsThere start) machines.old.items → IsThere start machine.old →
+    ensures there { (start : Untraced) → All (IsThere start) machines.old.items →
+        IsThere start machine.old →
         All (IsThere start) machines.new.items }
     ensures same { machine.new ≡ machine.old }
     ensures refused { IfErr result (λ e. e ≡ refusals.OutOfMemory) }

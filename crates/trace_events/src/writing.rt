@@ -106,7 +106,9 @@ fn put_entry<S: Sink>(
     requires index { index < length events.now }
     requires before { Indexes events.now index writers.now }
     requires low { address_of (event events.now index).access < 2 ^ 32 }
-    ensures { Puts S.took S.failures (entry_text events.now index (before_index events.now index) (event events.now index) (drop (index + 1) events.now)) out.old line.old result out.new line.new }
+    ensures { Puts S.took S.failures (entry_text events.now index (before_index events.now index)
+        (event events.now index) (drop (index + 1) events.now)) out.old line.old result out.new
+        line.new }
 {
     let before = event_before(events, index);
     add_entry(alloc, line, events, writers, index, before)?;
@@ -123,7 +125,8 @@ fn put_entries<S: Sink>(
 ) -> Result<(), RunError>
     requires none { Indexes events.now 0 writers }
     requires sound { IsTrace events.now }
-    ensures { Puts S.took S.failures (entries_text events.now 0 None events.now) out.old line.old result out.new line.new }
+    ensures { Puts S.took S.failures (entries_text events.now 0 None events.now) out.old line.old
+        result out.new line.new }
 {
     for index in 0..events.len() {
         put_entry(alloc, out, line, events, &writers, index)?;
@@ -142,7 +145,8 @@ fn put_head<S: Sink>(out: &mut S, line: &mut Line, harts: u32) -> Result<(), Run
 
 /// Puts the end, and all that wasn't put before.
 fn put_end<S: Sink>(out: &mut S, line: &mut Line) -> Result<(), RunError>
-    ensures wrote { Puts S.took S.failures (codes "\n]}\n") out.old line.old result out.new line.new }
+    ensures wrote { Puts S.took S.failures (codes "\n]}\n") out.old line.old result out.new
+        line.new }
     ensures empty { OnOk result (line.new ≡ []) }
 {
     line.text("\n]}\n")?;
@@ -160,7 +164,8 @@ fn put_trace<S: Sink>(
 ) -> Result<(), RunError>
     requires none { Indexes events.now 0 writers }
     requires sound { IsTrace events.now }
-    ensures wrote { Puts S.took S.failures (trace_events_text harts events.now) out.old line.old result out.new line.new }
+    ensures wrote { Puts S.took S.failures (trace_events_text harts events.now) out.old line.old
+        result out.new line.new }
     ensures empty { OnOk result (line.new ≡ []) }
 {
     put_head(out, line, harts)?;
@@ -184,7 +189,8 @@ pub fn write_trace_events<S: Sink>(
     pages: u32,
     out: &mut S,
 ) -> Result<(), RunError>
-    ensures { WritesText (trace_events_text harts trace.now.events) (S.took out.old) (S.failures out.old) result (S.took out.new) (S.failures out.new) }
+    ensures { WritesText (trace_events_text harts trace.now.events) (S.took out.old)
+        (S.failures out.old) result (S.took out.new) (S.failures out.new) }
 {
     let events = trace.to_vec(alloc)?;
     let writers = Writers::new(alloc, PAGE_WORDS * pages as usize)?;

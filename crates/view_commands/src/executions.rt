@@ -29,7 +29,8 @@ pub(crate) fn draw_execution<O: Output>(
     asked: &Draw<'_>,
     out: &mut O,
 ) -> Result<ExitStatus, DrawFailure>
-    ensures draws { IfOk result (DrawsExecution asked.now text.now (O.took out.old) (O.took out.new)) }
+    ensures draws { IfOk result (DrawsExecution asked.now text.now (O.took out.old)
+        (O.took out.new)) }
     ensures begun { OnErr result ((O.took out.new ≡ O.took out.old) ⊎
         IsBegunExecution asked.now text.now (O.took out.old) (O.took out.new)) }
     ensures unprinted { IfErr result (λ f.
@@ -66,14 +67,18 @@ fn draw_checked<O: Output>(
     asked: &Draw<'_>,
     out: &mut O,
 ) -> Result<ExitStatus, DrawFailure>
-    ensures prints { IfOk result (λ _. PrintsFound (is_allowed checked.now.finding) asked.now (as_recorded file.now)
+    ensures prints { IfOk result (λ _.
+        PrintsFound (is_allowed checked.now.finding) asked.now (as_recorded file.now)
         (IsVerdictText checked.now) (O.took out.old) (O.took out.new)) }
     ensures status { IfOk result (λ status. status ≡ verdict_status checked.now.finding) }
-    ensures begun { OnErr result ((O.took out.new ≡ O.took out.old) ⊎ BeginsFound (is_allowed checked.now.finding)
-        asked.now (as_recorded file.now) (IsVerdictText checked.now) (O.took out.old) (O.took out.new)) }
+    ensures begun { OnErr result ((O.took out.new ≡ O.took out.old) ⊎
+        BeginsFound (is_allowed checked.now.finding)
+        asked.now (as_recorded file.now) (IsVerdictText checked.now) (O.took out.old)
+        (O.took out.new)) }
     ensures unprinted { IfErr result (λ f.
         IsUnprinted (failure_number f) (O.took out.old) (O.took out.new)) }
-    ensures errors { IfErr result (IsCheckedEnd asked.now (as_recorded file.now) (is_allowed checked.now.finding)
+    ensures errors { IfErr result (IsCheckedEnd asked.now (as_recorded file.now)
+        (is_allowed checked.now.finding)
         (HasFailed O.failures O.is_stuck out.old out.new)) }
 {
     if is_allowed(checked) {

@@ -30,7 +30,8 @@ pub(crate) fn draw_guest<O: Output, P: Observer + ProgressLine, R: Threads + Wai
     progress: &mut P,
     out: &mut O,
 ) -> Result<ExitStatus, DrawFailure>
-    ensures draws { IfOk result (DrawsRun asked.now given.now.program.image.items given.now.program.input.items
+    ensures draws { IfOk result (DrawsRun asked.now given.now.program.image.items
+        given.now.program.input.items
         given.now.plan.text.items given.now.plan.budget (O.took out.old) (O.took out.new)) }
     ensures begun { OnErr result ((O.took out.new ≡ O.took out.old) ⊎
         IsBegunRun asked.now given.now.program.image.items given.now.program.input.items
@@ -38,7 +39,8 @@ pub(crate) fn draw_guest<O: Output, P: Observer + ProgressLine, R: Threads + Wai
     ensures unprinted { IfErr result (λ f.
         IsUnprinted (failure_number f) (O.took out.old) (O.took out.new)) }
     ensures errors { IfErr result (IsRunEnd asked.now given.now.program.image.items
-        given.now.plan.text.items given.now.plan.budget (HasFailed O.failures O.is_stuck out.old out.new)) }
+        given.now.plan.text.items given.now.plan.budget
+        (HasFailed O.failures O.is_stuck out.old out.new)) }
 {
     let NamedBytes { bytes, fault } = named_bytes(
         alloc,
@@ -68,15 +70,19 @@ fn draw_ranges<O: Output, P: Observer + ProgressLine, R: Threads + Wait + Sync>(
     out: &mut O,
 ) -> Result<(), RunFailure>
     requires { ranges.now ≡ ranges_of asked.now given.now.program.image.items }
-    ensures draws { OnOk result ((d : SetDraw asked.now given.now.program.image.items given.now.plan.text.items
-        given.now.plan.budget) × (O.took out.new ≡ O.took out.old ++ drawn_text given.now.program.input.items d)) }
+    ensures draws { OnOk result
+        ((d : SetDraw asked.now given.now.program.image.items given.now.plan.text.items
+        given.now.plan.budget) ×
+        (O.took out.new ≡ O.took out.old ++ drawn_text given.now.program.input.items d)) }
     ensures begun { OnErr result ((O.took out.new ≡ O.took out.old) ⊎
-        ((d : SetDraw asked.now given.now.program.image.items given.now.plan.text.items given.now.plan.budget) ×
+        ((d : SetDraw asked.now given.now.program.image.items given.now.plan.text.items
+        given.now.plan.budget) ×
         BeganText (O.took out.old) (O.took out.new) (drawn_text given.now.program.input.items d))) }
     ensures unprinted { IfErr result (λ f.
         IsUnprinted (run_number f) (O.took out.old) (O.took out.new)) }
     ensures errors { IfErr result (RefusedSetRun asked.now.run.program given.now.plan.text.items
-        given.now.plan.budget given.now.program.image.items (HasFailed O.failures O.is_stuck out.old out.new)) }
+        given.now.plan.budget given.now.program.image.items
+        (HasFailed O.failures O.is_stuck out.old out.new)) }
 {
     let settings = settings_of(&asked.run.program, &given.plan);
     let mut observed = Observed { observer: progress };
@@ -107,8 +113,10 @@ fn view_of<'a>(asked: &Draw<'_>, ranges: &'a [Range]) -> View<'a>
 
 /// Why a run isn't drawn with bytes of which this is wrong: what refuses its settings, its image or its plan comes before.
 fn refused_for(alloc: Global, given: &RunFiles, asked: &Draw<'_>, fault: NamingFault) -> DrawFailure
-    requires { IsNamed asked.now given.now.program.image.items asked.now.run.program.pages (Some fault) }
-    ensures { IsRunEnd asked.now given.now.program.image.items given.now.plan.text.items given.now.plan.budget ⊥ result }
+    requires { IsNamed asked.now given.now.program.image.items asked.now.run.program.pages
+        (Some fault) }
+    ensures { IsRunEnd asked.now given.now.program.image.items given.now.plan.text.items
+        given.now.plan.budget ⊥ result }
 {
     let settings = settings_of(&asked.run.program, &given.plan);
     let (image, input) = (&given.program.image, &given.program.input);

@@ -40,8 +40,10 @@ pub fn draw_command<
     messages: &M,
 ) -> Result<ExitStatus, DrawFailure>
     // All that was printed is the picture that the line asks for, or else what is found of the execution.
-    ensures draws { IfOk result (λ status. (a : AskedDraw (F.holds files.now) (F.begins files.now) asked.now) ×
-        Draws asked.now a.image a.input a.text a.budget (O.took out.old) (O.took out.new) status × O.is_out out.new) }
+    ensures draws { IfOk result (λ status.
+        (a : AskedDraw (F.holds files.now) (F.begins files.now) asked.now) ×
+        Draws asked.now a.image a.input a.text a.budget (O.took out.old) (O.took out.new) status ×
+        O.is_out out.new) }
     // Else nothing was printed, or a beginning of that.
     ensures begun { OnErr result ((O.took out.new ≡ O.took out.old) ⊎
         ((a : AskedDraw (F.holds files.now) (F.begins files.now) asked.now) ×
@@ -49,7 +51,8 @@ pub fn draw_command<
     // After a refusal for another cause than memory and the output nothing was printed.
     ensures unprinted { IfErr result (λ f.
         IsUnprinted (failure_number f) (O.took out.old) (O.took out.new)) }
-    ensures errors { IfErr result (EndsDraw (F.holds files.now) (F.begins files.now) (F.lacks files.now) asked.now
+    ensures errors { IfErr result (EndsDraw (F.holds files.now) (F.begins files.now)
+        (F.lacks files.now) asked.now
         (HasFailed O.failures O.is_stuck out.old out.new)) }
 {
     let given = read_run(files, alloc, &asked.run)?;
@@ -69,7 +72,8 @@ fn draw_given<O: Output, P: Observer + ProgressLine, R: Threads + Wait + Sync>(
     progress: &mut P,
     out: &mut O,
 ) -> Result<ExitStatus, DrawFailure>
-    ensures draws { IfOk result (Draws asked.now given.now.program.image.items given.now.program.input.items
+    ensures draws { IfOk result (Draws asked.now given.now.program.image.items
+        given.now.program.input.items
         given.now.plan.text.items given.now.plan.budget (O.took out.old) (O.took out.new)) }
     ensures begun { OnErr result ((O.took out.new ≡ O.took out.old) ⊎
         IsBegun asked.now given.now.program.image.items given.now.program.input.items
@@ -77,7 +81,8 @@ fn draw_given<O: Output, P: Observer + ProgressLine, R: Threads + Wait + Sync>(
     ensures unprinted { IfErr result (λ f.
         IsUnprinted (failure_number f) (O.took out.old) (O.took out.new)) }
     ensures errors { IfErr result (IsDrawEnd asked.now given.now.program.image.items
-        given.now.plan.text.items given.now.plan.budget (HasFailed O.failures O.is_stuck out.old out.new)) }
+        given.now.plan.text.items given.now.plan.budget
+        (HasFailed O.failures O.is_stuck out.old out.new)) }
 {
     if is_of_execution(asked, &given.program.image) {
         draw_execution(alloc, &given.program.image, asked, out)

@@ -30,17 +30,21 @@ pub fn trace_command<F: Files, O: Output, P: Observer + ProgressLine, R: Threads
     out: &mut O,
 ) -> Result<ExitStatus, RunFailure>
     // All that was printed is the trace of the run that the line asks for, as JSON.
-    ensures traces { IfOk result (λ status. (a : AskedRun (F.holds files.now) (F.begins files.now) run.now) ×
-        (O.took out.new ≡ O.took out.old ++ trace_events_after a.made.settings a.image a.input a.made.plan) ×
+    ensures traces { IfOk result (λ status.
+        (a : AskedRun (F.holds files.now) (F.begins files.now) run.now) ×
+        (O.took out.new ≡ O.took out.old ++ trace_events_after a.made.settings a.image a.input
+        a.made.plan) ×
         O.is_out out.new × (status ≡ statuses.Done)) }
     // Else nothing was printed, or a beginning of that.
     ensures begun { OnErr result ((O.took out.new ≡ O.took out.old) ⊎
-        ((a : AskedRun (F.holds files.now) (F.begins files.now) run.now) × BeganText (O.took out.old) (O.took out.new)
+        ((a : AskedRun (F.holds files.now) (F.begins files.now) run.now) ×
+        BeganText (O.took out.old) (O.took out.new)
         (trace_events_after a.made.settings a.image a.input a.made.plan))) }
     // After a refusal for another cause than memory and the output nothing was printed.
     ensures unprinted { IfErr result (λ f.
         IsUnprinted (failure_number f) (O.took out.old) (O.took out.new)) }
-    ensures errors { IfErr result (EndsFor (F.holds files.now) (F.begins files.now) (F.lacks files.now) run.now
+    ensures errors { IfErr result (EndsFor (F.holds files.now) (F.begins files.now)
+        (F.lacks files.now) run.now
         (HasFailed O.failures O.is_stuck out.old out.new)) }
 {
     let given = read_run(files, alloc, run)?;
@@ -58,16 +62,20 @@ fn trace_given<O: Output, P: Observer + ProgressLine, R: Threads + Wait + Sync>(
     progress: &mut P,
     out: &mut O,
 ) -> Result<(), RunFailure>
-    ensures traces { OnOk result ((r : SetRun run.now.program given.now.plan.text.items given.now.plan.budget) ×
-        (O.took out.new ≡ O.took out.old ++ trace_events_after r.settings given.now.program.image.items
+    ensures traces { OnOk result
+        ((r : SetRun run.now.program given.now.plan.text.items given.now.plan.budget) ×
+        (O.took out.new ≡ O.took out.old ++ trace_events_after r.settings
+        given.now.program.image.items
         given.now.program.input.items r.plan)) }
     ensures begun { OnErr result ((O.took out.new ≡ O.took out.old) ⊎
         ((r : SetRun run.now.program given.now.plan.text.items given.now.plan.budget) ×
-        BeganText (O.took out.old) (O.took out.new) (trace_events_after r.settings given.now.program.image.items
+        BeganText (O.took out.old) (O.took out.new)
+        (trace_events_after r.settings given.now.program.image.items
         given.now.program.input.items r.plan))) }
     ensures unprinted { IfErr result (λ f.
         IsUnprinted (failure_number f) (O.took out.old) (O.took out.new)) }
-    ensures errors { IfErr result (RefusedSetRun run.now.program given.now.plan.text.items given.now.plan.budget
+    ensures errors { IfErr result (RefusedSetRun run.now.program given.now.plan.text.items
+        given.now.plan.budget
         given.now.program.image.items (HasFailed O.failures O.is_stuck out.old out.new)) }
 {
     let settings = settings_of(&run.program, &given.plan);

@@ -52,7 +52,8 @@ pub fn hits_in_round(
     ensures { (code : List Range) (budget : ℕ) (quotas : ℕ → List ℕ) (s : State Hart ConsoleState) →
         IsBytes s.bytes → saved.now ≡ saved_of watches.now s.bytes → trace.now.events ≡
         events_left (s.rounds + 1) (moves_of (words_of code) budget quotas s) →
-        IfOk result (λ v. v.items ≡ hits_of way watches.now (moves_of (words_of code) budget quotas s)) }
+        IfOk result (λ v.
+        v.items ≡ hits_of way watches.now (moves_of (words_of code) budget quotas s)) }
 {
     let events = touching(alloc, trace, watches)?;
     hits(alloc, saved, &events, watches, way)

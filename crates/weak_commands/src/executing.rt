@@ -43,13 +43,16 @@ pub fn execution_command<
     out: &mut O,
 ) -> Result<ExitStatus, HuntFailure>
     // All that was printed is the text of the execution that the line asks for.
-    ensures prints { IfOk result (λ status. (a : AskedExecution (F.holds files.now) (F.begins files.now) W.makes asked.now) ×
-        (O.took out.new ≡ O.took out.old ++ execution.spelled a.file) × O.is_out out.new × (status ≡ statuses.Done)) }
+    ensures prints { IfOk result (λ status.
+        (a : AskedExecution (F.holds files.now) (F.begins files.now) W.makes asked.now) ×
+        (O.took out.new ≡ O.took out.old ++ execution.spelled a.file) × O.is_out out.new ×
+        (status ≡ statuses.Done)) }
     // Else nothing was printed, or a beginning of that.
     ensures begun { OnErr result ((O.took out.new ≡ O.took out.old) ⊎
         ((a : AskedExecution (F.holds files.now) (F.begins files.now) W.makes asked.now) ×
         BeganText (O.took out.old) (O.took out.new) (execution.spelled a.file))) }
-    ensures errors { IfErr result (EndsExecution (F.holds files.now) (F.begins files.now) (F.lacks files.now) asked.now
+    ensures errors { IfErr result (EndsExecution (F.holds files.now) (F.begins files.now)
+        (F.lacks files.now) asked.now
         (HasFailed O.failures O.is_stuck out.old out.new)) }
 {
     let file = asked_execution(threads, alloc, files, weakly, asked, progress)?;
@@ -72,8 +75,10 @@ fn asked_execution<
     asked: &Execution<'_>,
     progress: &mut P,
 ) -> Result<ExecutionFile, HuntFailure>
-    ensures asked { IfOk result (λ f. IsAskedFile (F.holds files.now) (F.begins files.now) W.makes asked.now (as_recorded f)) }
-    ensures errors { IfErr result (IsUnmadeFile (F.holds files.now) (F.begins files.now) (F.lacks files.now) asked.now) }
+    ensures asked { IfOk result (λ f.
+        IsAskedFile (F.holds files.now) (F.begins files.now) W.makes asked.now (as_recorded f)) }
+    ensures errors { IfErr result (IsUnmadeFile (F.holds files.now) (F.begins files.now)
+        (F.lacks files.now) asked.now) }
 {
     match number_of(asked) {
         Some(number) => numbered_execution(alloc, files, weakly, asked, number),
@@ -100,7 +105,9 @@ fn numbered_execution<F: Files, W: WeakExecutions>(
     asked: &Execution<'_>,
     number: u32,
 ) -> Result<ExecutionFile, HuntFailure>
-    ensures numbered { IfOk result (λ f. IsNumbered (F.holds files.now) (F.begins files.now) W.makes asked.now.run asked.now.steps number
+    ensures numbered { IfOk result (λ f.
+        IsNumbered (F.holds files.now) (F.begins files.now) W.makes asked.now.run asked.now.steps
+        number
         (as_recorded f)) }
     ensures errors { IfErr result (λ f. IsFileEnd (F.lacks files.now) (IsFileOfRun asked.now.run)
         (LacksSpurious (F.holds files.now) (F.begins files.now) asked.now.run.program) f ⊎
@@ -121,7 +128,8 @@ fn run_as_execution<F: Files, P: Observer + ProgressLine, R: Threads + Wait + Sy
     run: &Run<'_>,
     progress: &mut P,
 ) -> Result<ExecutionFile, RunFailure>
-    ensures run { IfOk result (λ f. IsRun (F.holds files.now) (F.begins files.now) run.now (as_recorded f)) }
+    ensures run { IfOk result (λ f.
+        IsRun (F.holds files.now) (F.begins files.now) run.now (as_recorded f)) }
     ensures errors { IfErr result (λ f. IsFileFailure (F.lacks files.now) (IsFileOfRun run.now)
         (LacksSpurious (F.holds files.now) (F.begins files.now) run.now.program) f ⊎
         RefusedRun (F.holds files.now) (F.begins files.now) run.now ⊥ f) }
@@ -138,9 +146,11 @@ fn run_given<P: Observer + ProgressLine, R: Threads + Wait + Sync>(
     run: &Run<'_>,
     progress: &mut P,
 ) -> Result<ExecutionFile, RunFailure>
-    ensures run { IfOk result (λ f. IsRunOf run.now.program given.now.plan.text.items given.now.plan.budget
+    ensures run { IfOk result (λ f.
+        IsRunOf run.now.program given.now.plan.text.items given.now.plan.budget
         given.now.program.image.items given.now.program.input.items (as_recorded f)) }
-    ensures errors { IfErr result (RefusedSetRun run.now.program given.now.plan.text.items given.now.plan.budget
+    ensures errors { IfErr result (RefusedSetRun run.now.program given.now.plan.text.items
+        given.now.plan.budget
         given.now.program.image.items ⊥) }
 {
     let settings = settings_of(&run.program, &given.plan);

@@ -97,7 +97,8 @@ impl From<AcceptError> for FencesFailure {
 }
 
 impl From<AllocError> for FencesFailure {
-    ghost from_gives = { λ _ failure. failure ≡ failures.Hunt (hunts.Run (runs.Refused refusals.OutOfMemory)) };
+    ghost from_gives = { λ _ failure. failure
+        ≡ failures.Hunt (hunts.Run (runs.Refused refusals.OutOfMemory)) };
 
     fn from(_refused: AllocError) -> FencesFailure {
         FencesFailure::from(RunError::OutOfMemory)
@@ -105,7 +106,8 @@ impl From<AllocError> for FencesFailure {
 }
 
 impl<T: Drop> From<AllocFailed<T>> for FencesFailure {
-    ghost from_gives = { λ _ failure. failure ≡ failures.Hunt (hunts.Run (runs.Refused refusals.OutOfMemory)) };
+    ghost from_gives = { λ _ failure. failure
+        ≡ failures.Hunt (hunts.Run (runs.Refused refusals.OutOfMemory)) };
 
     fn from(_refused: AllocFailed<T>) -> FencesFailure {
         FencesFailure::from(RunError::OutOfMemory)

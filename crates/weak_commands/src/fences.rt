@@ -53,17 +53,20 @@ pub fn fences_command<
 ) -> Result<ExitStatus, FencesFailure>
     // All that was printed is the table of the search that the line asks for, of which the status is, and the executions that it keeps were
     // written to the files of the folder that the line names.
-    ensures searches { IfOk result (λ status. (a : AskedSearch (F.holds files.old) (F.begins files.old) W.finds asked.now) ×
+    ensures searches { IfOk result (λ status.
+        (a : AskedSearch (F.holds files.old) (F.begins files.old) W.finds asked.now) ×
         (O.took out.new ≡ O.took out.old ++ fences_text a.made.table) × O.is_out out.new ×
         (status ≡ fences_status asked.now.fail_on a.made.table) ×
-        AreSaved F.was_given (keep_of asked.now) (map as_recorded a.made.executions) files.old files.new) }
+        AreSaved F.was_given (keep_of asked.now) (map as_recorded a.made.executions) files.old
+        files.new) }
     // Else nothing was printed, or a beginning of such a table.
     ensures begun { OnErr result ((O.took out.new ≡ O.took out.old) ⊎
         ((a : AskedSearch (F.holds files.old) (F.begins files.old) W.finds asked.now) ×
         BeganText (O.took out.old) (O.took out.new) (fences_text a.made.table))) }
     // Where the line names no folder, no file was written.
     ensures unasked { asked.now.keep ≡ None → files.new ≡ files.old }
-    ensures errors { IfErr result (EndsFences (F.holds files.old) (F.begins files.old) (F.lacks files.old)
+    ensures errors { IfErr result (EndsFences (F.holds files.old) (F.begins files.old)
+        (F.lacks files.old)
         (F.wasnt_given files.new) asked.now (HasFailed O.failures O.is_stuck out.old out.new)) }
 {
     let given = read_program(files, alloc, &asked.search.program)?;
@@ -83,7 +86,8 @@ pub fn fences_command<
 
 /// The text of the list of places that are accepted; without a file it is empty.
 fn read_list<F: Files>(files: &F, alloc: Global, path: Option<&str>) -> Result<Vec<u8>, RunFailure>
-    ensures list { IfOk result (λ bytes. IsInputOf (F.holds files.now) (option_map (λ s. s.now) path.entry) bytes.items) }
+    ensures list { IfOk result (λ bytes.
+        IsInputOf (F.holds files.now) (option_map (λ s. s.now) path.entry) bytes.items) }
     ensures errors { IfErr result (IsFileFailure (F.lacks files.now)
         (λ named. option_map (λ s. s.now) path.entry ≡ Some named) ⊥) }
 {
@@ -111,8 +115,10 @@ fn search_given<
     out: &mut O,
     messages: &M,
 ) -> Result<FoundFences, FencesFailure>
-    ensures searches { IfOk result (λ f. (s : SetSearch W.finds asked.now list.now files.now.image.items files.now.input.items) ×
-        (O.took out.new ≡ O.took out.old ++ fences_text s.table) × (f.table ≡ s.table) × (f.executions.items ≡ s.executions)) }
+    ensures searches { IfOk result (λ f.
+        (s : SetSearch W.finds asked.now list.now files.now.image.items files.now.input.items) ×
+        (O.took out.new ≡ O.took out.old ++ fences_text s.table) × (f.table ≡ s.table) ×
+        (f.executions.items ≡ s.executions)) }
     ensures begun { OnErr result ((O.took out.new ≡ O.took out.old) ⊎
         ((s : SetSearch W.finds asked.now list.now files.now.image.items files.now.input.items) ×
         BeganText (O.took out.old) (O.took out.new) (fences_text s.table))) }

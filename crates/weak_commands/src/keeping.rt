@@ -36,9 +36,11 @@ pub fn keep<F: Files>(
     folder: Option<&str>,
     executions: &[ExecutionFile],
 ) -> Result<(), FencesFailure>
-    ensures saved { OnOk result (AreSaved F.was_given (option_map (λ s. s.now) folder.entry) (map as_recorded executions.now) files.old files.new) }
+    ensures saved { OnOk result (AreSaved F.was_given (option_map (λ s. s.now) folder.entry)
+        (map as_recorded executions.now) files.old files.new) }
     ensures unasked { folder.entry ≡ None → files.new ≡ files.old }
-    ensures errors { IfErr result (IsUnsavedIn (F.wasnt_given files.new) (option_map (λ s. s.now) folder.entry)) }
+    ensures errors { IfErr result (IsUnsavedIn (F.wasnt_given files.new)
+        (option_map (λ s. s.now) folder.entry)) }
 {
     match folder {
         Some(folder) => keep_in(files, alloc, folder, executions),
@@ -53,7 +55,8 @@ fn keep_in<F: Files>(
     folder: &str,
     executions: &[ExecutionFile],
 ) -> Result<(), FencesFailure>
-    ensures saved { OnOk result (AreSaved F.was_given (Some folder.now) (map as_recorded executions.now) files.old files.new) }
+    ensures saved { OnOk result (AreSaved F.was_given (Some folder.now)
+        (map as_recorded executions.now) files.old files.new) }
     ensures errors { IfErr result (IsUnsaved (F.wasnt_given files.new) folder.now) }
 {
     if executions.is_empty() {
@@ -70,7 +73,8 @@ fn put_each<F: Files>(
     folder: &str,
     executions: &[ExecutionFile],
 ) -> Result<(), FencesFailure>
-    ensures given { OnOk result (AreGiven F.was_given folder.now 1 (map as_recorded executions.now) files.old files.new) }
+    ensures given { OnOk result (AreGiven F.was_given folder.now 1 (map as_recorded executions.now)
+        files.old files.new) }
     ensures errors { IfErr result (IsUnsaved (F.wasnt_given files.new) folder.now) }
 {
     for index in 0..executions.len() {
@@ -87,7 +91,8 @@ fn put<F: Files>(
     number: usize,
     file: &ExecutionFile,
 ) -> Result<(), FencesFailure>
-    ensures given { OnOk result (F.was_given files.old files.new (path_in folder.now number) (execution.spelled (as_recorded file.now))) }
+    ensures given { OnOk result (F.was_given files.old files.new (path_in folder.now number)
+        (execution.spelled (as_recorded file.now))) }
     ensures errors { IfErr result (IsUnsaved (F.wasnt_given files.new) folder.now) }
 {
     let path = path_of(alloc, folder, number)?;

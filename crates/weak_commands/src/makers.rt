@@ -35,9 +35,12 @@ pub trait WeakExecutions {
         steps: u32,
         number: u32,
     ) -> Result<ExecutionFile, WeakHuntError>
-        ensures makes { IfOk result (λ f. makes settings.now image.now input.now steps number (as_recorded f)) }
-        ensures allowed { IfOk result (λ f. IsAllowedExecution settings.now image.now input.now (as_recorded f)) }
-        ensures settings { (e : Refusal) → shrink_fault settings.now ≡ Some e → result ≡ Err (Hunt e) }
+        ensures makes { IfOk result (λ f.
+            makes settings.now image.now input.now steps number (as_recorded f)) }
+        ensures allowed { IfOk result (λ f.
+            IsAllowedExecution settings.now image.now input.now (as_recorded f)) }
+        ensures settings { (e : Refusal) → shrink_fault settings.now ≡ Some e →
+            result ≡ Err (Hunt e) }
         ensures image { (cause : ImageCause) → shrink_fault settings.now ≡ None →
             IsImageCause settings.now image.now cause →
             (result ≡ Err (Hunt (hunting.Run (refusals.Image cause)))) ⊎

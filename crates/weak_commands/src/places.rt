@@ -71,7 +71,8 @@ pub(crate) fn fences_of<M: Messages>(
     file: &[u8],
     messages: &M,
 ) -> Result<Vec<AssumedFence>, FencesFailure>
-    ensures assumed { IfOk result (λ fences. IsAssumed (map (λ s. s.now) words.now) settings.now file.now fences.items) }
+    ensures assumed { IfOk result (λ fences.
+        IsAssumed (map (λ s. s.now) words.now) settings.now file.now fences.items) }
     ensures errors { IfErr result (IsUnplaced (map (λ s. s.now) words.now) settings.now file.now) }
 {
     if words.is_empty() {
@@ -95,7 +96,8 @@ fn fences_in<M: Messages>(
     code: &[Range],
     messages: &M,
 ) -> Result<Vec<AssumedFence>, FencesFailure>
-    ensures named { IfOk result (λ fences. AreFences file.now code.now (map (λ s. s.now) words.now) [] fences.items) }
+    ensures named { IfOk result (λ fences.
+        AreFences file.now code.now (map (λ s. s.now) words.now) [] fences.items) }
     ensures errors { IfErr result (IsMisplaced file.now code.now (map (λ s. s.now) words.now)) }
 {
     let mut fences = Vec::new(alloc);

@@ -50,10 +50,12 @@ pub trait FenceSearches {
             ((t : Table) × (es : List Saved) × IsSearched settings.hunt image.now input.now t ×
             finds settings image.now input.now t es ×
             BeganText (S.took out.old) (S.took out.new) (fences_text t))) }
-        ensures settings { (e : Refusal) → hunt_fault settings.hunt ≡ Some e → result ≡ Err (Hunt e) }
+        ensures settings { (e : Refusal) → hunt_fault settings.hunt ≡ Some e →
+            result ≡ Err (Hunt e) }
         ensures errors { hunt_fault settings.hunt ≡ None → IfErr result (λ e.
             IsWeakReason settings.hunt image.now e ⊎
-            ((e ≡ Hunt (hunting.Run refusals.SinkFailed)) × (S.failures out.old < S.failures out.new))) }
+            ((e ≡ Hunt (hunting.Run refusals.SinkFailed)) ×
+            (S.failures out.old < S.failures out.new))) }
         ensures image { (cause : ImageCause) → hunt_fault settings.hunt ≡ None →
             IsImageCause settings.hunt image.now cause →
             (result ≡ Err (Hunt (hunting.Run (refusals.Image cause)))) ⊎

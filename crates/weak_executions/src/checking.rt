@@ -39,7 +39,8 @@ pub struct Finding {
 pub fn check(alloc: Global, opening: &Opening<'_>, record: &Record) -> Result<Finding, OutOfMemory>
     requires { length opening.now.harts.now ≤ MOST_HARTS }
     ensures { IfOk result (λ f. f.verdict ≡ Allowed →
-        IsAllowedEnd opening.now.image.now opening.now.input.now opening.now.harts.now f.harts.items f.output.items) }
+        IsAllowedEnd opening.now.image.now opening.now.input.now opening.now.harts.now f.harts.items
+        f.output.items) }
 {
     check_by(alloc, opening, record, Placing::Earliest)
 }
@@ -57,7 +58,8 @@ pub fn check_by(
 ) -> Result<Finding, OutOfMemory>
     requires { length opening.now.harts.now ≤ MOST_HARTS }
     ensures { IfOk result (λ f. f.verdict ≡ Allowed →
-        IsAllowedEnd opening.now.image.now opening.now.input.now opening.now.harts.now f.harts.items f.output.items) }
+        IsAllowedEnd opening.now.image.now opening.now.input.now opening.now.harts.now f.harts.items
+        f.output.items) }
 {
     let order = record.order_by(alloc, placing)?;
     let trace = opening_trace(alloc, opening.image)?;
@@ -77,7 +79,8 @@ fn find(
 ) -> Result<Finding, OutOfMemory>
     requires no_instructions { execution.old.standing.instructions ≡ [] }
     requires no_events { execution.old.standing.events ≡ [] }
-    ensures { IfOk result (λ f. IsVerdict f.verdict execution.old.memory (opening_at opening.now.opening)
+    ensures { IfOk result (λ f.
+        IsVerdict f.verdict execution.old.memory (opening_at opening.now.opening)
         script.now order.now.0.items execution.old.standing execution.new.standing ×
         (f.harts.items ≡ execution.new.standing.harts) ×
         (f.output.items ≡ execution.new.standing.console.output)) }
@@ -139,7 +142,8 @@ fn meets_rvwmo(
     order: &Order,
 ) -> Result<bool, OutOfMemory>
     requires formed { All HasForm execution.now.standing.events }
-    requires along { length execution.now.standing.instructions ≡ length execution.now.standing.events }
+    requires along { length execution.now.standing.instructions
+        ≡ length execution.now.standing.events }
 {
     let instructions = execution.instructions();
     let events = execution.events();

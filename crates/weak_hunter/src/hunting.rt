@@ -46,9 +46,12 @@ pub fn hunt_weakly<S: Sink, O: HuntObserver + Sync, R: Threads + Wait + Sync>(
 ) -> Result<Tally, WeakHuntError>
     requires weak { settings.now.header.is_weak ≡ true }
     // It is the table of endings each of which RVWMO allows, and the sink takes its text.
-    ensures writes { WritesAnswer S.took S.failures (IsWeakHuntText settings.now image.now input.now)
-        (IsFaultOr (option_map Hunt (hunt_fault settings.now)) (IsWeakReason settings.now image.now))
-        (Hunt (hunting.Run refusals.OutOfMemory)) (Hunt (hunting.Run refusals.SinkFailed)) out.old out.new result }
+    ensures writes { WritesAnswer S.took S.failures
+        (IsWeakHuntText settings.now image.now input.now)
+        (IsFaultOr (option_map Hunt (hunt_fault settings.now))
+        (IsWeakReason settings.now image.now))
+        (Hunt (hunting.Run refusals.OutOfMemory)) (Hunt (hunting.Run refusals.SinkFailed)) out.old
+        out.new result }
     // Where memory is refused, it took nothing.
     ensures memory { result ≡ Err (Hunt (hunting.Run refusals.OutOfMemory)) →
         S.took out.new ≡ S.took out.old }
@@ -76,7 +79,8 @@ fn tabulate_weakly<O: HuntObserver + Sync, R: Threads + Wait + Sync>(
     steps: u32,
     observer: &O,
 ) -> Result<Tally, WeakHuntError>
-    ensures table { IfOk result (λ t. IsWeaklyHunted settings.now image.now input.now t.done t.rows.items) }
+    ensures table { IfOk result (λ t.
+        IsWeaklyHunted settings.now image.now input.now t.done t.rows.items) }
     ensures settings { (e : Refusal) → hunt_fault settings.now ≡ Some e → result ≡ Err (Hunt e) }
     ensures errors { hunt_fault settings.now ≡ None →
         IfErr result (λ e. IsWeakReason settings.now image.now e) }

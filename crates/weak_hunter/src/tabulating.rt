@@ -44,7 +44,8 @@ fn tabulate_block<O: HuntObserver + Sync, R: Threads + Sync>(
     requires more { tally.old.done < extent.most }
     requires going { tally.old.is_over ≡ false }
     requires tally { IsSomeTally extent tally.old.is_over tally.old.done tally.old.rows.items }
-    ensures tally { OnOk result (IsSomeTally extent tally.new.is_over tally.new.done tally.new.rows.items) }
+    ensures tally { OnOk result (IsSomeTally extent tally.new.is_over tally.new.done
+        tally.new.rows.items) }
     ensures more { OnOk result (tally.new.is_over ≡ false → tally.old.done < tally.new.done) }
 {
     let task = Task {
@@ -72,7 +73,8 @@ fn add_endings<O: HuntObserver>(
     requires within { tally.old.done + length slots.old ≤ extent.most }
     requires going { tally.old.is_over ≡ false }
     requires tally { IsSomeTally extent tally.old.is_over tally.old.done tally.old.rows.items }
-    ensures tally { OnOk result (IsSomeTally extent tally.new.is_over tally.new.done tally.new.rows.items) }
+    ensures tally { OnOk result (IsSomeTally extent tally.new.is_over tally.new.done
+        tally.new.rows.items) }
     ensures more { OnOk result (tally.new.is_over ≡ false → tally.old.done < tally.new.done) }
 {
     for index in 0..slots.len() {
@@ -114,7 +116,8 @@ fn add_ending(
     requires more { tally.old.done < extent.most }
     requires going { tally.old.is_over ≡ false }
     requires tally { IsSomeTally extent tally.old.is_over tally.old.done tally.old.rows.items }
-    ensures tally { OnOk result (IsSomeTally extent tally.new.is_over tally.new.done tally.new.rows.items) }
+    ensures tally { OnOk result (IsSomeTally extent tally.new.is_over tally.new.done
+        tally.new.rows.items) }
     ensures more { OnOk result (tally.new.done ≡ tally.old.done + 1) }
 {
     tally.is_over = extent.until.is_over_with(&tally.rows, &ending);

@@ -46,7 +46,8 @@ pub fn weak_execution(
     number: u32,
 ) -> Result<ExecutionFile, WeakHuntError>
     // RVWMO allows the execution that the file says, which is one of this image and this input.
-    ensures allowed { IfOk result (λ f. IsAllowedExecution settings.now image.now input.now (as_recorded f)) }
+    ensures allowed { IfOk result (λ f.
+        IsAllowedExecution settings.now image.now input.now (as_recorded f)) }
     // Settings out of range are refused first, and then an image.
     ensures settings { (e : Refusal) → shrink_fault settings.now ≡ Some e → result ≡ Err (Hunt e) }
     ensures image { (cause : ImageCause) → shrink_fault settings.now ≡ None →

@@ -27,8 +27,10 @@ pub fn pairs_are_atomic(
     requires formed { All HasForm events.now }
     requires lists { ListsOperations events.now order.now }
     requires ranked { IsRanking events.now order.now ranks.now }
-    requires sourced { AreSources events.now order.now (MaySee events.now (order_position order.now)) sources.now.items }
-    ensures { IfOk result (λ yes. IsTrue yes ↔ AtomicityAxiom events.now (order_position order.now)) }
+    requires sourced { AreSources events.now order.now
+        (MaySee events.now (order_position order.now)) sources.now.items }
+    ensures { IfOk result (λ yes.
+        IsTrue yes ↔ AtomicityAxiom events.now (order_position order.now)) }
 {
     let reserved = last_reserved(alloc, events)?;
     let mut latest = BTreeMap::new(alloc);
@@ -57,11 +59,13 @@ fn is_atomic(
     requires formed { All HasForm events.now }
     requires lists { ListsOperations events.now order.now }
     requires ranked { IsRanking events.now order.now ranks.now }
-    requires sourced { AreSources events.now order.now (MaySee events.now (order_position order.now)) sources.now.items }
+    requires sourced { AreSources events.now order.now
+        (MaySee events.now (order_position order.now)) sources.now.items }
     requires reserved { AreReserved events.now (length events.now) reserved.now }
     requires latest { (x : ℕ) →
         IsLatestStore events.now (order_position order.now) p x (latest_of latest.now x) }
-    ensures { IsTrue result ↔ AtomicAt events.now (order_position order.now) (slice_index order.now p) }
+    ensures { IsTrue result ↔ AtomicAt events.now (order_position order.now)
+        (slice_index order.now p) }
 {
     let index = listed(events, order, p);
     let hart = event_at(events, index).hart;

@@ -24,7 +24,8 @@ fn word_of(bounds: &Bounds, owner: u64, word: u64) -> [usize; 8]
 pub fn bounds_at(bounds: &Bounds, owner: u64, address: u64, width: u64) -> [usize; 8]
     requires fits { address + width < 2 ^ 64 }
     requires few { width ≤ 8 }
-    ensures { (x : ℕ) → in_range address width x ≡ true → slice_index result (x % 8) ≡ bound bounds.now owner x }
+    ensures { (x : ℕ) → in_range address width x ≡ true →
+        slice_index result (x % 8) ≡ bound bounds.now owner x }
 {
     let first = address % 8;
     let numbers = word_of(bounds, owner, address / 8);

@@ -125,7 +125,8 @@ fn note_word(
     next: usize,
 ) -> Result<(), OutOfMemory>
     requires { first + count ≤ 8 }
-    ensures { OnOk result ((x : ℕ) → latest_of latest.new x ≡ (if in_range (8 * word + first) count x
+    ensures { OnOk result ((x : ℕ) →
+        latest_of latest.new x ≡ (if in_range (8 * word + first) count x
         then after_store (latest_of latest.old x) hart next else latest_of latest.old x)) }
 {
     match latest.get_mut(&word) {

@@ -24,8 +24,10 @@ pub fn own_stores(
     requires formed { All HasForm events.now }
     requires lists { ListsOperations events.now order.now }
     requires ranked { IsRanking events.now order.now ranks.now }
-    ensures { IfOk result (λ o. MatchOption o (RespectsOverlap events.now (order_position order.now) →
-        ⊥) (λ s. RespectsOverlap events.now (order_position order.now) × AreSources events.now order.now (OwnWrite events.now) s.items)) }
+    ensures { IfOk result (λ o.
+        MatchOption o (RespectsOverlap events.now (order_position order.now) →
+        ⊥) (λ s. RespectsOverlap events.now (order_position order.now) ×
+        AreSources events.now order.now (OwnWrite events.now) s.items)) }
 {
     let mut own = BTreeMap::new(alloc);
     let mut sources = vec![in alloc; [0; 8]; order.len()]?;

@@ -42,7 +42,8 @@ pub(crate) fn respects_but_overlap(
 ) -> Result<bool, OutOfMemory>
     requires formed { All HasForm events.now }
     requires ranked { IsRanking events.now order.now ranks.now }
-    ensures { IfOk result (λ yes. IsTrue yes ↔ RespectsButOverlap events.now (order_position order.now)) }
+    ensures { IfOk result (λ yes.
+        IsTrue yes ↔ RespectsButOverlap events.now (order_position order.now)) }
 {
     let mut harts = vec![in alloc; NO_BOUNDS; 256]?;
     for i in 0..events.len() {

@@ -24,7 +24,8 @@ pub fn all_sources(
     requires formed { All HasForm events.now }
     requires lists { ListsOperations events.now order.now }
     requires own { AreSources events.now order.now (OwnWrite events.now) sources.items }
-    ensures { IfOk result (λ s. AreSources events.now order.now (MaySee events.now (order_position order.now)) s.items) }
+    ensures { IfOk result (λ s.
+        AreSources events.now order.now (MaySee events.now (order_position order.now)) s.items) }
 {
     // the stores so far, at owner 0
     let mut seen = BTreeMap::new(alloc);

@@ -21,7 +21,8 @@ pub fn loads_are_right(
     requires formed { All HasForm events.now }
     requires lists { ListsOperations events.now order.now }
     requires ranked { IsRanking events.now order.now ranks.now }
-    requires sourced { AreSources events.now order.now (MaySee events.now (order_position order.now)) sources.now.items }
+    requires sourced { AreSources events.now order.now
+        (MaySee events.now (order_position order.now)) sources.now.items }
     ensures { IsTrue result ↔ ((r x : ℕ) → reads_at events.now r x ≡ true → IsLeft events.now
         (opening_at trace.now.opening) order.now r x (source_of order.now sources.now.items r x)) }
 {
@@ -45,9 +46,11 @@ fn load_is_right(
     requires formed { All HasForm events.now }
     requires lists { ListsOperations events.now order.now }
     requires ranked { IsRanking events.now order.now ranks.now }
-    requires sourced { AreSources events.now order.now (MaySee events.now (order_position order.now)) sources.now.items }
+    requires sourced { AreSources events.now order.now
+        (MaySee events.now (order_position order.now)) sources.now.items }
     ensures { IsTrue result ↔ ((x : ℕ) → reads_at events.now reader x ≡ true → IsLeft events.now
-        (opening_at trace.now.opening) order.now reader x (source_of order.now sources.now.items reader x)) }
+        (opening_at trace.now.opening) order.now reader x
+        (source_of order.now sources.now.items reader x)) }
 {
     let event = event_at(events, reader);
     if !event.access.loads() {
