@@ -4,7 +4,7 @@ use Rattle.all_endings.specs.Endings.{AllEndingsWithin}
 use Rattle.ending_judge.specs.JudgedEndings.{IsAllowedFrom, ending_in, ranges_of}
 use Rattle.execution_file.specs.declared.file.ExecutionFile.{ExecutionFile}
 use Rattle.execution_scripts.specs.Findings.{start_of}
-use Rattle.execution_scripts.specs.declared.scripted.ScriptedGuest.{ScriptedGuest}
+use Rattle.execution_makers.specs.declared.scripted.ScriptedGuest.{ScriptedGuest}
 use Rattle.endings_table.specs.Text.{table_text}
 use Rattle.endings_table.specs.declared.found_ending.FoundEnding.{FoundEnding}
 use Rattle.endings_table.specs.declared.others.Others.TheVariants.{Absent}

@@ -6,7 +6,8 @@ use crate::judging::judge_of_guest;
 use all_search::{Ending, RunEnd};
 use ending_judge::Proposed;
 use endings_table::{FoundEnding, HartEnd};
-use execution_scripts::{ExecutionFile, execution_of_script};
+use execution_makers::execution_of_script;
+use execution_scripts::ExecutionFile;
 use pages::OutOfMemory;
 use std::alloc::Global;
 

@@ -6,7 +6,7 @@ use crate::settings::EndingsSettings;
 use all_search::Guest as SearchedGuest;
 use early_loads::GuestCode;
 use elf_loader::Image;
-use execution_scripts::ScriptedGuest;
+use execution_makers::ScriptedGuest;
 use guest_rounds::opening_harts;
 use hunt_table::SeenRange;
 use pages::{OutOfMemory, Range};

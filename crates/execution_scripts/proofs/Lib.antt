@@ -1,4 +1,4 @@
-mod Counted
+pub mod Counted
 mod Ended
 mod Going
 mod Judging
@@ -9,5 +9,4 @@ mod Opened
 mod Reading
 mod Stepped
 mod Stepping
-mod Unrefused
 mod Ways

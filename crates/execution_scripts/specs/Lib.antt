@@ -2,4 +2,3 @@ pub mod Following
 pub mod Misfits
 pub mod Courses
 pub mod Findings
-pub mod RunFiles

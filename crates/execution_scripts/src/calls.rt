@@ -13,7 +13,7 @@ use rv64_decode::Instr;
 
 /// What a step was.
 #[derive(Clone, Copy)]
-pub(crate) enum Taken {
+pub enum Taken {
     /// The hart did an instruction.
     Done,
     /// It did a call whose position among the calls makes a difference: to put or get a byte, or to ask for the round.
@@ -23,7 +23,7 @@ pub(crate) enum Taken {
 }
 
 /// The number of the call that a hart's next instruction would be.
-pub(crate) fn call_number(execution: &Execution, hart: u8) -> u64
+pub fn call_number(execution: &Execution, hart: u8) -> u64
     ensures { (g : Hart) → slice_get execution.now.standing.harts hart ≡ Some g →
         result ≡ reg g.x 17 }
 {
@@ -34,7 +34,7 @@ pub(crate) fn call_number(execution: &Execution, hart: u8) -> u64
 }
 
 /// What the instruction at an index of the list was, where x17 was as `call` says.
-pub(crate) fn taken_at(execution: &Execution, index: usize, call: u64) -> Taken
+pub fn taken_at(execution: &Execution, index: usize, call: u64) -> Taken
     ensures { result ≡ taken_as (slice_get execution.now.standing.instructions index) call }
 {
     match execution.instructions().get(index) {
@@ -65,7 +65,7 @@ fn is_call(instruction: Instr, call: u64) -> bool
 }
 
 /// Adds what a hart did in a round, if it is such a call.
-pub(crate) fn add_call(
+pub fn add_call(
     calls: &mut Vec<Turn>,
     hart: u8,
     round: u32,
@@ -79,7 +79,7 @@ pub(crate) fn add_call(
 }
 
 /// Forgets the calls where one hart alone makes them and none asks for the round, as they have no other order then.
-pub(crate) fn forget_plain(calls: &mut Vec<Turn>) {
+pub fn forget_plain(calls: &mut Vec<Turn>) {
     if is_plain(calls) {
         calls.clear();
     }

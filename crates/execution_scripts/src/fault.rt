@@ -74,7 +74,7 @@ pub struct Fault {
 
 /// Why a file wasn't followed to its end.
 #[derive(Clone, Copy)]
-pub(crate) enum Halt {
+pub enum Halt {
     /// What it says is no execution.
     Fault(Fault),
     /// A request for memory was refused.

@@ -26,7 +26,7 @@ use std::alloc::Global;
 
 /// Harts on their way through an execution.
 #[derive(Drop)]
-pub(crate) struct Follower<'a> {
+pub struct Follower<'a> {
     pub(crate) way: Way,
     /// What the harts are said to do.
     parts: &'a [HartDeeds],
@@ -37,7 +37,7 @@ pub(crate) struct Follower<'a> {
 
 impl<'a> Follower<'a> {
     /// Harts of an image and an input that have done nothing yet, one for each of these parts.
-    pub(crate) fn open(
+    pub fn open(
         alloc: Global,
         image: &Image,
         input: &[u8],
@@ -47,8 +47,12 @@ impl<'a> Follower<'a> {
         requires { length parts.now ≤ MOST_HARTS }
         ensures on { IfOk result (λ f.
             let g = opening_guest image.now input.now (length parts.now) in
-            IsOn (record { image = g.shared.memory; start = start_of g;
-            lines = map hart_view parts.now; asked = asked }) 0 f) }
+            IsOn (record {
+              image = g.shared.memory;
+              start = start_of g;
+              lines = map hart_view parts.now;
+              asked = asked;
+            }) 0 f) }
         ensures standing { IfOk result (λ f.
             f.way.execution.standing ≡ start_of
             (opening_guest image.now input.now (length parts.now))) }
@@ -77,7 +81,7 @@ impl<'a> Follower<'a> {
     }
 
     /// How many instructions a hart has done.
-    pub(crate) fn done(&self, hart: u8) -> u64
+    pub fn done(&self, hart: u8) -> u64
         ensures { result ≡ done_by self.now.way.execution.standing hart }
     {
         match self.way.execution.harts().get(usize::from(hart)) {
@@ -106,7 +110,7 @@ impl<'a> Follower<'a> {
     }
 
     /// Sets the number of the round from here on.
-    pub(crate) fn set_round(&mut self, round: u32) {
+    pub fn set_round(&mut self, round: u32) {
         self.round = round;
     }
 
@@ -128,7 +132,7 @@ impl<'a> Follower<'a> {
     }
 
     /// The next step of a hart.
-    pub(crate) fn step(&mut self, hart: u8) -> Result<Taken, Halt>
+    pub fn step(&mut self, hart: u8) -> Result<Taken, Halt>
         ensures took { IfOk result (λ taken. (c : Course) (n : ℕ) → IsOn c n self.old →
             hart < length c.lines → IsOn c n self.new ×
             Took taken c.image (line_of c.lines hart) n hart self.old.way.execution.standing

@@ -1,4 +1,4 @@
-//! Executions of files, and runs as executions: from a file to the script of the checker, and from a run to a file.
+//! Executions of files: from a file to the script and the order that the checker judges.
 #![tactic(auto)]
 
 mod calls;
@@ -8,12 +8,10 @@ mod fault;
 mod following;
 mod misreading;
 mod opening;
-mod paces;
-mod running;
 mod said;
-mod scripted;
 mod way;
 
+pub use calls::{Taken, add_call, call_number, forget_plain, taken_at};
 pub use checking::{Checked, Finding, check_file};
 pub use execution_checker::Verdict;
 pub use execution_file::{
@@ -22,8 +20,7 @@ pub use execution_file::{
 pub use execution_views::{
     Before, HartStep, Moment, Sights, bytes_at, moment_of, positions_sought,
 };
-pub use fault::{Fault, Misfit};
+pub use fault::{Fault, Halt, Misfit};
+pub use following::Follower;
 pub use opening::open_execution;
-pub use running::execution_of_run;
 pub use said::{Said, order_said};
-pub use scripted::{ScriptedGuest, execution_of_script};

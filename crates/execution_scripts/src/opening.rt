@@ -5,7 +5,7 @@ ghost use Rattle.execution_scripts.specs.Findings.{start_of};
 use elf_loader::Image;
 use execution_checker::Execution;
 use guest_rounds::opening_harts;
-use hart_step::DecodedCode;
+use hart_step::decode_around;
 use pages::OutOfMemory;
 use round_schedule::MOST_HARTS;
 use serial_phase::SharedState;
@@ -26,8 +26,7 @@ fn shared_at_start(
     ensures reservations { IfOk result (λ s. length s.reservations ≡ harts) }
 {
     let pages = image.to_pages(alloc)?;
-    // An execution is opened for each check, so its words are decoded as they are fetched.
-    let code = DecodedCode::new(alloc, &pages, 0, 0)?;
+    let code = decode_around(alloc, &pages, image.entry())?;
     let input = Vec::from_slice(alloc, input)?;
     Ok(SharedState::open(alloc, pages, code, input, harts))
 }

@@ -3,7 +3,8 @@ ghost use Rattle.fence_finder.specs.MissingFences.{IsShown};
 
 use crate::faults::failure_found;
 use crate::guest::Guest;
-use execution_scripts::{ExecutionFile, ScriptedGuest, execution_of_script};
+use execution_makers::{ScriptedGuest, execution_of_script};
+use execution_scripts::ExecutionFile;
 use fence_search::{Departing, Found, Weakness};
 use fence_table::{Failure, Missing, NamedGap, Shown, TriedFence};
 use pages::OutOfMemory;

@@ -117,8 +117,11 @@ fn read_at<R: Threads + Wait + Sync, K: Sink>(
 
 /// What is looked at where the run stands.
 fn look_of(standing: Standing, workers: u32) -> Look
-    ensures { result ≡ record { point = standing.point; hart = standing.general;
-        workers = workers } }
+    ensures { result ≡ record {
+      point = standing.point;
+      hart = standing.general;
+      workers = workers;
+    } }
 {
     Look {
         point: standing.point,

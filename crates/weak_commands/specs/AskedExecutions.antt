@@ -6,7 +6,7 @@ use Rattle.command_line.specs.declared.settings.Execution.{Execution}
 use Rattle.command_line.specs.declared.settings.Program.{Program}
 use Rattle.command_line.specs.declared.settings.Run.{Run}
 use Rattle.execution_file.specs.Recorded.{Recorded}
-use Rattle.execution_scripts.specs.RunFiles.{IsFileOf}
+use Rattle.execution_makers.specs.RunFiles.{IsFileOf}
 use Rattle.host_io.specs.declared.error.RunError.TheVariants as refusals
 use Rattle.host_io.specs.declared.load_error.LoadError.{LoadError as ImageCause}
 use Rattle.hunt_commands.specs.Asked.{IsCutEnd, IsFileEnd}

@@ -10,7 +10,8 @@ ghost use Rattle.program_files.specs.declared.exit_status.ExitStatus.TheVariants
 
 use crate::makers::WeakExecutions;
 use command_line::{Execution, Run};
-use execution_scripts::{ExecutionFile, execution_of_run, write_execution};
+use execution_makers::execution_of_run;
+use execution_scripts::{ExecutionFile, write_execution};
 use hunt_commands::{HuntFailure, program_settings};
 use machine::Observer;
 use program_files::{

@@ -2,7 +2,7 @@
 use Rattle.std.specs.Prelude.{◌≡◌, ◌⊎◌, ℕ, List, length}
 use Rattle.execution_file.specs.Recorded.{Recorded}
 use Rattle.execution_scripts.specs.Findings.{IsAllowedFile}
-use Rattle.execution_scripts.specs.RunFiles.{is_flat}
+use Rattle.execution_makers.specs.RunFiles.{is_flat}
 use Rattle.host_io.specs.declared.error.RunError.TheVariants as refusals
 use Rattle.host_io.specs.declared.load_error.LoadError.{LoadError as ImageCause}
 use Rattle.hunter.specs.Hunts.{IsImageCause}

@@ -3,7 +3,7 @@ ghost use Rattle.std.specs.Bool.{OnTrue};
 ghost use Rattle.execution_checker.specs.declared.verdict.Verdict.TheVariants.{Allowed};
 ghost use Rattle.execution_file.specs.Views.{as_recorded};
 ghost use Rattle.execution_scripts.specs.Findings.{IsAllowedFile};
-ghost use Rattle.execution_scripts.specs.RunFiles.{IsFileFor};
+ghost use Rattle.execution_makers.specs.RunFiles.{IsFileFor};
 ghost use Rattle.execution_scripts.specs.declared.checking.Finding.TheVariants.{Judged};
 ghost use Rattle.host_io.specs.declared.load_error.LoadError.{LoadError as ImageCause};
 ghost use Rattle.host_io.specs.declared.error.RunError.TheVariants as refusals;
@@ -17,9 +17,8 @@ use crate::bounds::bounds_of;
 use crate::error::WeakHuntError;
 use departures::Record;
 use elf_loader::Image;
-use execution_scripts::{
-    ExecutionFile, Finding, ScriptedGuest, Verdict, check_file, execution_of_script,
-};
+use execution_makers::{ScriptedGuest, execution_of_script};
+use execution_scripts::{ExecutionFile, Finding, Verdict, check_file};
 use guest_rounds::opening_harts;
 use hunter::{HuntSettings, check_guest};
 use machine::load;

@@ -6,7 +6,7 @@ use Rattle.round_planner.specs.declared.settings.Settings.{Settings}
 use Rattle.machine.specs.Machine.{Running}
 use Rattle.execution_file.specs.Recorded.{HartDeeds, Recorded}
 use Rattle.execution_file.specs.Deeds.{deeds}
-use Rattle.execution_scripts.specs.declared.scripted.ScriptedGuest.{ScriptedGuest}
+use Rattle.execution_makers.specs.declared.scripted.ScriptedGuest.{ScriptedGuest}
 
 abbrev pub is_flat : Format → Bool
 is_flat Flat = true

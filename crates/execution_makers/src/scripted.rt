@@ -1,12 +1,11 @@
 ghost use Rattle.std.specs.Prelude.{◌≡◌, ◌≤◌, IfOk, OnOk, length};
 ghost use Rattle.execution_file.specs.Views.{as_recorded};
-ghost use Rattle.execution_scripts.specs.RunFiles.{IsFileFor};
+ghost use Rattle.execution_makers.specs.RunFiles.{IsFileFor};
 
-use crate::calls::{add_call, call_number, forget_plain, taken_at};
-use crate::opening::open_execution;
 use crate::running::{copied, is_flat};
 use execution_checker::{Execution, ScriptedStep};
 use execution_file::{ExecutionFile, Turn, deeds, turns_of};
+use execution_scripts::{add_call, call_number, forget_plain, open_execution, taken_at};
 use host_io::RunError;
 use machine::{Format, load};
 use memory_order::Order;

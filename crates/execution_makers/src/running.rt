@@ -6,14 +6,12 @@ ghost use Rattle.round_planner.specs.Settings.{IsPlan, IsReason, RefusedInOrder,
 ghost use Rattle.machine.specs.Runs.{after_run};
 ghost use Rattle.execution_file.specs.Views.{as_recorded, hart_view};
 ghost use Rattle.execution_file.specs.Deeds.{deeds};
-ghost use Rattle.execution_scripts.specs.RunFiles.{IsFileOf, IsFileWith, is_flat};
+ghost use Rattle.execution_makers.specs.RunFiles.{IsFileOf, IsFileWith, is_flat};
 
-use crate::calls::{add_call, forget_plain};
-use crate::fault::Halt;
-use crate::following::Follower;
 use crate::paces::Paces;
 use elf_loader::Image;
 use execution_file::{ExecutionFile, HartDeeds, Turn, deeds, turns_of};
+use execution_scripts::{Follower, Halt, add_call, forget_plain};
 use host_io::RunError;
 use machine::{Format, Machine, Observer, Settings, load, prepare};
 use memory_order::memory_order;

@@ -1,5 +1,5 @@
 use Rattle.execution_scripts.proofs.Counted.{as_many_opened}
-use Rattle.execution_scripts.proofs.scripted.opened.Goals as goal
+use Rattle.execution_makers.proofs.scripted.opened.Goals as goal
 
 pub returns : goal.returns
 returns c =

@@ -1,5 +1,5 @@
 use Rattle.std.proofs.Common.{◌≡◌, length}
-use Rattle.execution_scripts.proofs.scripted.calls_of.Given as goal
+use Rattle.execution_makers.proofs.scripted.calls_of.Given as goal
 
 -- as many harts as at first
 abbrev pub invariant-loop-step : goal.invariant-loop-step

@@ -1,6 +1,6 @@
 use Rattle.std.proofs.Common.{refl}
 use Rattle.execution_scripts.proofs.Counted.{a_part_each}
-use Rattle.execution_scripts.proofs.scripted.file_of.Goals as goal
+use Rattle.execution_makers.proofs.scripted.file_of.Goals as goal
 
 pub returns : goal.returns
 returns c = record {
