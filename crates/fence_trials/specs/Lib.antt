@@ -1,0 +1,3 @@
+pub mod Departing
+pub mod Well
+pub mod Trials
