@@ -1,1 +1,4 @@
-pub mod Well
+pub mod Counting
+pub mod Gathered
+pub mod Places
+pub mod Searching

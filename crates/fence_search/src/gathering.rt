@@ -1,8 +1,12 @@
 //! Gaps at which fences forbid all executions that fail.
 
-use crate::trying::Found;
+ghost use Rattle.std.specs.Prelude.{◌≡◌, ◌+◌, ◌<◌, ◌^◌, IfOk, IfSome, OnOk, length};
+ghost use Rattle.fence_search.specs.Gathered.{plans_of};
+ghost use Rattle.fence_search.specs.Places.{pc_of};
+
 use fence_places::{Gap, Move};
 use fence_table::Tally;
+use fence_trials::{Found, Spot};
 use pages::OutOfMemory;
 use std::alloc::Global;
 use std::mem;
@@ -14,7 +18,7 @@ pub struct Weakness {
     /// The address of the instruction behind it.
     pub later: u64,
     /// Where a fence forbids these executions.
-    pub(crate) spot: Spot,
+    pub spot: Spot,
     /// The numbers of these executions.
     pub numbers: Tally,
     /// Of these executions one in which an operation moved past just the two instructions, if there is one; of several one with the fewest
@@ -23,7 +27,7 @@ pub struct Weakness {
     /// The operation that the fence would have kept in it.
     pub moved: Move,
     /// The other ones.
-    pub(crate) others: Vec<Found>,
+    pub others: Vec<Found>,
 }
 
 // By hand, so that a proof has one step for it wherever one is dropped, in this crate and above.
@@ -43,15 +47,24 @@ impl Drop for Weakness {
     }
 }
 
-/// Where a fence may stand.
-#[derive(Clone, Copy, PartialEq, Eq, PartialOrd, Ord)]
-pub(crate) enum Spot {
-    /// Right before the instruction at an address.
-    Before(u64),
-    /// Right behind it.
-    Behind(u64),
-    /// Anywhere between two instructions.
-    Between(u64, u64),
+impl Weakness {
+    /// The address of the instruction before which a fence is tried.
+    pub fn pc(&self) -> u64
+        ensures { result ≡ pc_of self.now }
+    {
+        match self.spot {
+            Spot::Behind(pc) => pc.saturating_add(4),
+            Spot::Before(pc) | Spot::Between(_, pc) => pc,
+        }
+    }
+}
+
+/// The gaps of a search.
+#[derive(Drop)]
+pub(crate) struct Gathered {
+    pub weaknesses: Vec<Weakness>,
+    /// Numbers that no fence at a gap would mend.
+    pub unnamed: Tally,
 }
 
 /// That a fence at a spot forbids an execution.
@@ -78,19 +91,25 @@ struct Candidate {
 /// # Errors
 ///
 /// `OutOfMemory` alone.
-pub(crate) fn fewest_weaknesses(
-    alloc: Global,
-    founds: Vec<Found>,
-) -> Result<Vec<Weakness>, OutOfMemory> {
+pub(crate) fn fewest_weaknesses(alloc: Global, founds: Vec<Found>) -> Result<Gathered, OutOfMemory>
+    requires few { length founds.items < 2 ^ 32 }
+    // None is lost.
+    ensures { IfOk result (λ g. plans_of g.weaknesses.items + g.unnamed.plans
+        ≡ length founds.items) }
+{
     let mut left = founds;
-    let mut weaknesses = Vec::new(alloc);
+    let mut gathered = Gathered {
+        weaknesses: Vec::new(alloc),
+        unnamed: Tally::none(),
+    };
     for _ in 0..left.len() {
         let Some(spot) = elected(spots_of(alloc, &left)?) else {
             break;
         };
-        add_weakness(alloc, spot, &mut left, &mut weaknesses)?;
+        add_weakness(alloc, spot, &mut left, &mut gathered)?;
     }
-    Ok(weaknesses)
+    gathered.unnamed = gathered.unnamed.joined(numbers_of(&left));
+    Ok(gathered)
 }
 
 /// Adds the gap of a spot, and takes away the executions that a fence there forbids.
@@ -98,24 +117,22 @@ fn add_weakness(
     alloc: Global,
     spot: Spot,
     left: &mut Vec<Found>,
-    weaknesses: &mut Vec<Weakness>,
-) -> Result<(), OutOfMemory> {
+    gathered: &mut Gathered,
+) -> Result<(), OutOfMemory>
+    requires few { plans_of gathered.old.weaknesses.items + gathered.old.unnamed.plans + length
+        left.old.items < 2 ^ 32 }
+    ensures { OnOk result
+        (plans_of gathered.new.weaknesses.items + gathered.new.unnamed.plans + length left.new.items
+        ≡ plans_of gathered.old.weaknesses.items + gathered.old.unnamed.plans + length
+        left.old.items) }
+{
     let hit = taken_away(alloc, left, spot)?;
-    if let Some(weakness) = weakness_at(alloc, spot, hit)? {
-        weaknesses.push(weakness)?;
+    let numbers = numbers_of(&hit);
+    match weakness_at(alloc, spot, numbers, hit)? {
+        Some(weakness) => gathered.weaknesses.push(weakness)?,
+        None => gathered.unnamed = gathered.unnamed.joined(numbers),
     }
     Ok(())
-}
-
-impl Spot {
-    /// Whether it is in a gap.
-    fn is_in(self, gap: &Gap) -> bool {
-        match self {
-            Spot::Behind(pc) => gap.earlier == pc,
-            Spot::Before(pc) => gap.later == pc,
-            Spot::Between(earlier, later) => gap.earlier == earlier && gap.later == later,
-        }
-    }
 }
 
 /// For each execution the spots next to an instruction.
@@ -123,8 +140,8 @@ fn spots_of(alloc: Global, founds: &[Found]) -> Result<Vec<Vote>, OutOfMemory> {
     let mut votes = Vec::new(alloc);
     for found in founds {
         for gap in &found.moves.gaps {
-            found.vote(&mut votes, Spot::Behind(gap.earlier), gap)?;
-            found.vote(&mut votes, Spot::Before(gap.later), gap)?;
+            add_vote(found, &mut votes, Spot::Behind(gap.earlier), gap)?;
+            add_vote(found, &mut votes, Spot::Before(gap.later), gap)?;
         }
     }
     Ok(votes)
@@ -196,56 +213,41 @@ fn better(best: Option<Candidate>, other: Option<Candidate>) -> Option<Candidate
     }
 }
 
-impl Found {
-    /// The nearest gap that a spot is in.
-    pub(crate) fn nearest(&self, spot: Spot) -> Option<Gap> {
-        let mut nearest: Option<Gap> = None;
-        for gap in &self.moves.gaps {
-            let is_nearer = match nearest {
-                Some(nearest) => gap.distance < nearest.distance,
-                None => true,
-            };
-            if is_nearer && spot.is_in(gap) {
-                nearest = Some(*gap);
-            }
-        }
-        nearest
+/// An execution votes for a spot, where no other of its gaps that has it is nearer.
+fn add_vote(
+    found: &Found,
+    votes: &mut Vec<Vote>,
+    spot: Spot,
+    gap: &Gap,
+) -> Result<(), OutOfMemory> {
+    if found.nearest(spot) == Some(*gap) {
+        votes.push(Vote {
+            spot,
+            distance: gap.distance,
+        })?;
     }
+    Ok(())
+}
 
-    /// The nearest gap that a spot is in, and the operation that moved there.
-    fn gap_at(&self, spot: Spot) -> Option<(Gap, Move)> {
-        let gap = self.nearest(spot)?;
-        let moved = self.moves.moves.get(gap.moved)?;
-        Some((gap, *moved))
-    }
-
-    /// Votes for a spot, where no other gap that has it is nearer.
-    fn vote(&self, votes: &mut Vec<Vote>, spot: Spot, gap: &Gap) -> Result<(), OutOfMemory> {
-        if self.nearest(spot) == Some(*gap) {
-            votes.push(Vote {
-                spot,
-                distance: gap.distance,
-            })?;
-        }
-        Ok(())
-    }
-
-    /// What decides which execution is shown at a spot: the least is chosen.
-    fn cost(&self, spot: Spot) -> (u32, usize, u64, u32) {
-        let distance = match self.nearest(spot) {
-            Some(gap) => gap.distance,
-            None => u32::MAX,
-        };
-        (distance, self.departures.len(), self.span.all, self.number)
-    }
+/// What decides which execution is shown at a spot: the least is chosen.
+fn cost_of(found: &Found, spot: Spot) -> (u32, usize, u64, u32) {
+    let distance = match found.nearest(spot) {
+        Some(gap) => gap.distance,
+        None => u32::MAX,
+    };
+    (
+        distance,
+        found.departures.len(),
+        found.span.all,
+        found.number,
+    )
 }
 
 /// The executions that a fence at a spot forbids, which are taken away from all.
-fn taken_away(
-    alloc: Global,
-    founds: &mut Vec<Found>,
-    spot: Spot,
-) -> Result<Vec<Found>, OutOfMemory> {
+fn taken_away(alloc: Global, founds: &mut Vec<Found>, spot: Spot) -> Result<Vec<Found>, OutOfMemory>
+    ensures { IfOk result (λ hit. length hit.items + length founds.new.items
+        ≡ length founds.old.items) }
+{
     let all = mem::replace(founds, Vec::new(alloc));
     let mut hit = Vec::new(alloc);
     for found in all {
@@ -258,29 +260,34 @@ fn taken_away(
     Ok(hit)
 }
 
-/// The gap of a spot where a fence forbids these executions.
+/// The gap of a spot where a fence forbids these executions, of these numbers.
 fn weakness_at(
     alloc: Global,
     spot: Spot,
+    numbers: Tally,
     hit: Vec<Found>,
-) -> Result<Option<Weakness>, OutOfMemory> {
+) -> Result<Option<Weakness>, OutOfMemory>
+    ensures { IfOk result (λ found. IfSome found (λ w. w.numbers ≡ numbers)) }
+{
     match elected(gaps_of(alloc, &hit, spot)?) {
-        Some(between) => Ok(told_at(spot, between, hit)),
+        Some(between) => Ok(told_at(spot, between, numbers, hit)),
         None => Ok(None),
     }
 }
 
 /// How many executions these are, and the least of their numbers.
-fn numbers_of(founds: &[Found]) -> Tally {
-    let mut tally = Tally {
-        plans: 0,
-        first: u32::MAX,
-    };
+fn numbers_of(founds: &[Found]) -> Tally
+    requires { length founds.now < 2 ^ 32 }
+    ensures { result.plans ≡ length founds.now }
+{
+    let mut first = u32::MAX;
     for found in founds {
-        tally.plans = tally.plans.saturating_add(1);
-        tally.first = tally.first.min(found.number);
+        first = first.min(found.number);
     }
-    tally
+    Tally {
+        plans: founds.len() as u32,
+        first,
+    }
 }
 
 /// The execution that is shown at a spot, which is taken away from these.
@@ -297,7 +304,7 @@ fn shown_at(spot: Spot, founds: &mut Vec<Found>) -> Option<Found> {
 fn index_shown(spot: Spot, founds: &[Found]) -> usize {
     let mut best = 0;
     for index in 1..founds.len() {
-        if founds[index].cost(spot) < founds[best].cost(spot) {
+        if cost_of(&founds[index], spot) < cost_of(&founds[best], spot) {
             best = index;
         }
     }
@@ -305,8 +312,9 @@ fn index_shown(spot: Spot, founds: &[Found]) -> usize {
 }
 
 /// What is told of a spot where a fence forbids these executions, and of the gap in it that most have.
-fn told_at(spot: Spot, between: Spot, hit: Vec<Found>) -> Option<Weakness> {
-    let numbers = numbers_of(&hit);
+fn told_at(spot: Spot, between: Spot, numbers: Tally, hit: Vec<Found>) -> Option<Weakness>
+    ensures { IfSome result (λ w. w.numbers ≡ numbers) }
+{
     let mut others = hit;
     let shown = shown_at(between, &mut others)?;
     match shown.gap_at(between) {

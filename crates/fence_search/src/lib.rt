@@ -1,26 +1,14 @@
-//! A search for missing fences: executions in which loads read old and stores come late or early are made by their numbers, those that fail are
-//! made with as few departures as they need, and what is left names the gaps where nothing orders two accesses.
-//!
-//! The checker of executions says of each execution that is found whether RVWMO allows it, so nothing else here need be trusted.
+//! A search for missing fences: executions are made by their numbers, and what those fail by that fail names the gaps at which fences forbid them.
 #![tactic(auto)]
 
-mod departing;
-mod failing;
+mod counting;
 mod gathering;
-mod guest;
-mod mending;
-mod ordinary;
+mod searcher;
 mod searching;
-mod shortening;
-mod state;
-mod trying;
-mod working;
+mod trials;
 
-pub use departing::Departing;
-pub use failing::Failing;
+pub use counting::Counted;
 pub use gathering::Weakness;
-pub use guest::{FenceGuest, Reach, Span};
-pub use mending::Numbers;
-pub use ordinary::Compared;
-pub use searching::{FenceObserver, Search, UnobservedSearch, search_fences};
-pub use trying::Found;
+pub use searcher::Searcher;
+pub use searching::{Search, search_fences};
+pub use trials::Trials;
