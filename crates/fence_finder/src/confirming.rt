@@ -1,12 +1,13 @@
 ghost use Rattle.std.specs.Prelude.{◌≡◌, IfOk, IfSome};
-ghost use Rattle.fence_finder.specs.MissingFences.{IsShown};
+ghost use Rattle.fence_finder.specs.MissingFences.{IsFault, IsShown};
 
 use crate::faults::failure_found;
 use crate::guest::Guest;
 use execution_makers::{ScriptedGuest, execution_of_script};
 use execution_scripts::ExecutionFile;
-use fence_search::{Departing, Found, Weakness};
+use fence_search::Weakness;
 use fence_table::{Failure, Missing, NamedGap, Shown, TriedFence};
+use fence_trials::{Departing, Found, Ordinary};
 use pages::OutOfMemory;
 use timed_machine::TimedMachine;
 use weak_executions::{Verdict, check_by};
@@ -23,14 +24,19 @@ pub(crate) struct Confirmed {
 pub(crate) fn confirm(
     guest: &Guest<'_>,
     gap: NamedGap,
+    runs: &Ordinary,
     fence: TriedFence,
     weakness: &Weakness,
 ) -> Result<Option<Confirmed>, OutOfMemory>
-    ensures { IfOk result (λ found. IfSome found (λ c. IsShown guest.now.opening.image.now
+    ensures shown { IfOk result (λ found. IfSome found (λ c. IsShown guest.now.opening.image.now
         guest.now.opening.input.now guest.now.opening.harts.now c.missing.failure)) }
+    ensures fault { IfOk result (λ found. IfSome found (λ c. IsFault runs.now c.missing.failure)) }
+    ensures fence { IfOk result (λ found. IfSome found (λ c. c.missing.fence ≡ fence)) }
+    ensures numbers { IfOk result (λ found.
+        IfSome found (λ c. c.missing.numbers ≡ weakness.now.numbers)) }
 {
     let machine = made_again(guest, &weakness.shown)?;
-    let confirmed = confirm_by(guest, gap, fence, weakness, &machine);
+    let confirmed = confirm_by(guest, gap, runs, fence, weakness, &machine);
     drop(machine);
     confirmed
 }
@@ -39,14 +45,19 @@ pub(crate) fn confirm(
 fn confirm_by(
     guest: &Guest<'_>,
     gap: NamedGap,
+    runs: &Ordinary,
     fence: TriedFence,
     weakness: &Weakness,
     machine: &TimedMachine,
 ) -> Result<Option<Confirmed>, OutOfMemory>
-    ensures { IfOk result (λ found. IfSome found (λ c. IsShown guest.now.opening.image.now
+    ensures shown { IfOk result (λ found. IfSome found (λ c. IsShown guest.now.opening.image.now
         guest.now.opening.input.now guest.now.opening.harts.now c.missing.failure)) }
+    ensures fault { IfOk result (λ found. IfSome found (λ c. IsFault runs.now c.missing.failure)) }
+    ensures fence { IfOk result (λ found. IfSome found (λ c. c.missing.fence ≡ fence)) }
+    ensures numbers { IfOk result (λ found.
+        IfSome found (λ c. c.missing.numbers ≡ weakness.now.numbers)) }
 {
-    match failure_of(guest, &weakness.shown, machine)? {
+    match failure_of(guest, runs, &weakness.shown, machine)? {
         Some(failure) => {
             let missing = told_of(guest, gap, fence, weakness, failure)?;
             let execution = file_of(guest, &weakness.shown, machine)?;
@@ -54,6 +65,36 @@ fn confirm_by(
         }
         None => Ok(None),
     }
+}
+
+/// An execution that was found as a file, where it is to be kept and RVWMO allows it.
+pub(crate) fn kept_of(
+    guest: &Guest<'_>,
+    shown: &Found,
+) -> Result<Option<ExecutionFile>, OutOfMemory> {
+    if !guest.settings.keeps {
+        return Ok(None);
+    }
+    let machine = made_again(guest, shown)?;
+    let kept = allowed_file(guest, shown, &machine);
+    drop(machine);
+    kept
+}
+
+/// The same, where this machine has made the execution again.
+fn allowed_file(
+    guest: &Guest<'_>,
+    shown: &Found,
+    machine: &TimedMachine,
+) -> Result<Option<ExecutionFile>, OutOfMemory> {
+    let Some(record) = machine.record() else {
+        return Ok(None);
+    };
+    let finding = check_by(guest.alloc, &guest.opening, record, shown.placing)?;
+    if let Verdict::Allowed = finding.verdict {
+        return file_of(guest, shown, machine);
+    }
+    Ok(None)
 }
 
 /// The machine of an execution that was found, with its record.
@@ -67,10 +108,12 @@ fn made_again(guest: &Guest<'_>, shown: &Found) -> Result<TimedMachine, OutOfMem
 /// How a machine's execution fails, where RVWMO allows it.
 fn failure_of(
     guest: &Guest<'_>,
+    runs: &Ordinary,
     shown: &Found,
     machine: &TimedMachine,
 ) -> Result<Option<Failure>, OutOfMemory>
-    ensures { IfOk result (λ found. IfSome found (IsShown guest.now.opening.image.now
+    ensures fault { IfOk result (λ found. IfSome found (IsFault runs.now)) }
+    ensures shown { IfOk result (λ found. IfSome found (IsShown guest.now.opening.image.now
         guest.now.opening.input.now guest.now.opening.harts.now)) }
 {
     let Some(record) = machine.record() else {
@@ -80,7 +123,7 @@ fn failure_of(
     let seen = seen_of(guest.alloc, machine.pages(), ranges)?;
     let finding = check_by(guest.alloc, &guest.opening, record, shown.placing)?;
     match finding.verdict {
-        Verdict::Allowed => failure_found(guest, shown.failing, seen, finding),
+        Verdict::Allowed => failure_found(guest, runs, shown.failing, seen, finding),
         _ => Ok(None),
     }
 }
@@ -93,7 +136,9 @@ fn told_of(
     weakness: &Weakness,
     failure: Failure,
 ) -> Result<Missing, OutOfMemory>
-    ensures { IfOk result (λ m. m.failure ≡ failure) }
+    ensures failure { IfOk result (λ m. m.failure ≡ failure) }
+    ensures fence { IfOk result (λ m. m.fence ≡ fence) }
+    ensures numbers { IfOk result (λ m. m.numbers ≡ weakness.now.numbers) }
 {
     let shown = &weakness.shown;
     Ok(Missing {

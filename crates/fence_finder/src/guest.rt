@@ -1,7 +1,8 @@
-ghost use Rattle.std.specs.Prelude.{◌≤◌, ◌+◌, ◌<◌, ◌^◌, length};
+ghost use Rattle.std.specs.Prelude.{◌≡◌, ◌≤◌, ◌+◌, ◌<◌, ◌^◌, length};
 
 use crate::settings::FenceSettings;
-use fence_search::{FenceGuest, Numbers};
+use fence_trials::FenceGuest;
+use plan_hunt::Extent;
 use std::alloc::Global;
 use weak_executions::Opening;
 
@@ -17,7 +18,7 @@ pub(crate) struct Guest<'a> {
     /// What makes the executions.
     pub maker: FenceGuest<'a>,
     /// Which of them.
-    pub numbers: Numbers,
+    pub extent: Extent,
     ghost few: { length opening.harts.now ≤ 64 },
-    ghost below: { numbers.first + numbers.count < 2 ^ 32 },
+    ghost below: { extent.first + extent.most < 2 ^ 32 },
 }

@@ -24,11 +24,11 @@ impl Guest<'_> {
         Ok(Site { pc, name })
     }
 
-    /// The gap of a missing fence.
-    pub(crate) fn gap(&self, weakness: &Weakness) -> Result<NamedGap, OutOfMemory> {
+    /// The gap between two instructions.
+    pub(crate) fn gap_between(&self, earlier: u64, later: u64) -> Result<NamedGap, OutOfMemory> {
         Ok(NamedGap {
-            earlier: self.site(weakness.earlier)?,
-            later: self.site(weakness.later)?,
+            earlier: self.site(earlier)?,
+            later: self.site(later)?,
         })
     }
 

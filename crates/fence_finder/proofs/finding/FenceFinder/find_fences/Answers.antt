@@ -6,23 +6,24 @@ use Rattle.hunter.specs.declared.error.HuntError.TheVariants.{Run}
 use Rattle.host_io.proofs.Answered.{answered, by_writing_as, cut_off, fault_in, refused_first}
 use Rattle.weak_hunter.specs.WeakHunts.{IsWeakReason}
 use Rattle.weak_hunter.specs.declared.error.WeakHuntError.TheVariants.{Hunt}
-use Rattle.fence_finder.proofs.finding.find_fences.Goals as goal
+use Rattle.fence_finder.proofs.finding.FenceFinder.find_fences.Goals as goal
 
-pub returns-in_err-findings-clause-writes : goal.returns-in_err-findings-clause-writes
-returns-in_err-findings-clause-writes g c =
+pub returns-in_err-found-clause-writes : goal.returns-in_err-found-clause-writes
+returns-in_err-found-clause-writes g c =
     let s = c.args.settings.hunt in
     let p = err_from_is_err_and c.from_residual.result c.from_residual.ensures.1 in
     rw (p.1, p.2)
-    (refused_first _ (fault_in (hunt_fault s) Hunt (IsWeakReason s c.args.image.now) _ c.in_err-findings.ensures.settings c.in_err-findings.ensures.errors) refl)
+    (refused_first _ (fault_in (hunt_fault s) Hunt (IsWeakReason s c.args.image.now) _ c.in_err-found.ensures.settings c.in_err-found.ensures.errors) refl)
 
 pub returns-in_err-write_fences-clause-writes : goal.returns-in_err-write_fences-clause-writes
 returns-in_err-write_fences-clause-writes g c =
     let p = err_from_is_err_and c.from_residual-in_err-write_fences.result c.from_residual-in_err-write_fences.ensures.1 in
     let w = c.in_err-write_fences.ensures.writes in
-    let table = c.told-found.ensures c.args.image.now c.args.input.now c.in_ok-findings.ensures.shown in
-    rw (p.1, p.2) (cut_off _ c.told-found.result _ (by_writing_as (λ (e : RunError). Hunt (Run e)) _ _ _ _ _ _ w) (record { table = table; is_text = refl }) w.begun)
+    let found = c.in_ok-found.ensures in
+    rw (p.1, p.2) (cut_off _ c.in_ok-found.found _ (by_writing_as (λ (e : RunError). Hunt (Run e)) _ _ _ _ _ _ w)
+    (record { table = found.shown; told = found.searched; is_text = refl }) w.begun)
 
 pub returns-clause-writes : goal.returns-clause-writes
 returns-clause-writes g c =
-    let table = c.told-found.ensures c.args.image.now c.args.input.now c.in_ok-findings.ensures.shown in
-    answered _ _ (record { table = table; is_text = refl }) c.in_ok-write_fences.ensures.writes.ok
+    let found = c.in_ok-found.ensures in
+    answered _ _ (record { table = found.shown; told = found.searched; is_text = refl }) c.in_ok-write_fences.ensures.writes.ok
