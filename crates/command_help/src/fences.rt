@@ -49,9 +49,19 @@ is early (before) or late (behind), and one of another hart that it moved past.
 After 'ends otherwise' there are the lines 'see' and 'output' of dethart hunt.
 'stuck' says no more than that harts still run after ten times the steps of any
 ordinary run. RVWMO allows each execution that is told: the checker of dethart
-check accepted it. Standard error has for each, but with --as-if-fence, the line
-that prints all that its number does:
+check accepted it. Standard error has for each the line that prints all that its
+number does:
   missing K: dethart execution IMAGE .. --weak --plan-number NUMBER --seed S
+With --as-if-fence, and where the execution runs on past ten times an ordinary
+run, it has the file of --keep, or the line that finds and keeps it:
+  missing K: dethart fences IMAGE .. --first NUMBER --plans 1 --keep FOLDER
+With --progress it has 'found between PC and PC' and that line as soon as a
+place is known.
+
+--until missing ends the search with the first number for which a fence is
+missing, but where a fence at a place of --accept would mend it. With --seconds N
+no number is begun after N seconds. The table is that of the numbers from FIRST
+on that were done then, without a gap, and its first line has their COUNT.
 
 --keep DIR writes execution K to DIR/K.execution, for dethart check, replay,
 watch and draw. --accept FILE has two words a line, as hart_main+0x3c or as a

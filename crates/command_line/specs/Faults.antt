@@ -8,7 +8,7 @@ use Rattle.clap.specs.Kinds.{or_else}
 use Rattle.clap.specs.Words.{Kinds, Row, Text, fault_of, first_of, one_of, subcommand_of}
 use Rattle.clap.specs.declared.error.kind.ErrorKind.TheVariants.{ArgumentConflict, ValueValidation}
 use Rattle.command_options.specs.Options.{dethart_app}
-use Rattle.command_line.specs.Reading.{address_given, address_in, fail_on_in, fences_fail_on_in, is_given, is_set, number_given, number_in, seen_given, shown_in, until_in}
+use Rattle.command_line.specs.Reading.{address_given, address_in, fail_on_in, fences_fail_on_in, is_given, is_set, is_until_missing, number_given, number_in, seen_given, shown_in, until_in}
 
 -- ---- words that clap takes as texts
 
@@ -46,9 +46,13 @@ is_fail_on name text = if bytes_eq name (codes "fences") then is_some (fences_fa
 abbrev pub has_bad_fail_on : Text → List Row → Bool
 has_bad_fail_on name rows = option_map_or (λ text. not (is_fail_on name text)) (first_of (codes "fail-on") rows) false
 
--- the word after --until says no ending
-abbrev pub has_bad_until : List Row → Bool
-has_bad_until rows = option_map_or (λ text. not (is_some (until_in text))) (first_of (codes "until") rows) false
+-- the subcommand of this name takes the word after --until
+abbrev pub is_until : Text → Text → Bool
+is_until name text = if bytes_eq name (codes "fences") then is_until_missing text else is_some (until_in text)
+
+-- it doesn't
+abbrev pub has_bad_until : Text → List Row → Bool
+has_bad_until name rows = option_map_or (λ text. not (is_until name text)) (first_of (codes "until") rows) false
 
 -- the word after --as is no form that a trace is written in
 abbrev pub has_bad_form : List Row → Bool
@@ -58,7 +62,7 @@ has_bad_form rows = option_map_or (λ text. not (bytes_eq text (codes "perfetto"
 abbrev pub has_bad_word : Text → List Row → Bool
 has_bad_word name rows =
     has_bad_address name rows || (names_no_bytes name rows
-    || (has_bad_bytes rows || (has_bad_show rows || (has_bad_fail_on name rows || (has_bad_until rows || has_bad_form rows)))))
+    || (has_bad_bytes rows || (has_bad_show rows || (has_bad_fail_on name rows || (has_bad_until name rows || has_bad_form rows)))))
 
 -- ---- options that contradict each other
 

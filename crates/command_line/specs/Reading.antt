@@ -149,6 +149,14 @@ fences_fail_on_in text = if bytes_eq text (codes "missing") then Some fences_fai
 abbrev pub fences_fail_on_given : List Row → Option FencesFailOn
 fences_fail_on_given rows = option_and_then fences_fail_on_in (first_of (codes "fail-on") rows)
 
+-- the word after --until says that a search ends with a missing fence
+abbrev pub is_until_missing : Text → Bool
+is_until_missing text = bytes_eq text (codes "missing")
+
+-- `fences` is given this word
+abbrev pub until_missing_given : List Row → Bool
+until_missing_given rows = option_map_or is_until_missing (first_of (codes "until") rows) false
+
 -- the line gives the option
 abbrev pub is_given : Text → List Row → Bool
 is_given id rows = is_some (first_of id rows)
@@ -270,6 +278,8 @@ pub record HoldsFences (rows : List Row) (fences : Fences) : Type 0 where
   pub first : fences.first ≡ number_or 0 (one_of (codes "first") rows)
   pub steps : fences.steps ≡ number_or 100000000 (one_of (codes "steps") rows)
   pub fail_on : fences.fail_on ≡ unwrap_or (fences_fail_on_given rows) fences_fail_on.Missing
+  pub until_missing : fences.until_missing ≡ until_missing_given rows
+  pub seconds : fences.seconds ≡ number_given 32 (one_of (codes "seconds") rows)
   pub keep : option_map (λ s. s.now) fences.keep ≡ first_of (codes "keep") rows
   pub accept : option_map (λ s. s.now) fences.accept ≡ first_of (codes "accept") rows
   pub as_if_fence : map (λ s. s.now) fences.as_if_fence.items ≡ texts_given (codes "as-if-fence") rows

@@ -2,7 +2,6 @@
 ghost use Rattle.std.specs.Prelude.{◌≡◌, IfOk, unwrap_or};
 ghost use Rattle.clap.specs.Words.{found_of, rows_of};
 ghost use Rattle.command_line.specs.Reading.{HoldsCompare, HoldsHunt, HoldsMerge, HoldsPlan, HoldsSearch, HoldsShrink, fail_on_given, fail_on_in, until_given, until_in};
-ghost use Rattle.command_line.specs.Faults.{has_bad_until};
 ghost use Rattle.command_line.specs.declared.settings.FailOn.TheVariants as fail_on;
 
 use crate::given::is_set;
@@ -75,7 +74,7 @@ fn until_given(matches: &ArgMatches<'_>) -> Option<HuntUntil>
 }
 
 /// Which ending the word after `--until` of `hunt` says.
-fn until_in(text: &str) -> Option<HuntUntil>
+pub(crate) fn until_in(text: &str) -> Option<HuntUntil>
     ensures { result ≡ until_in text.now }
 {
     if text == "bad" {
@@ -84,16 +83,6 @@ fn until_in(text: &str) -> Option<HuntUntil>
         Some(HuntUntil::Differ)
     } else {
         None
-    }
-}
-
-/// Whether the matches have a word after `--until` that says no ending.
-pub(crate) fn has_bad_until(matches: &ArgMatches<'_>) -> bool
-    ensures { result ≡ has_bad_until (rows_of (found_of matches.now)) }
-{
-    match matches.get_str("until") {
-        Some(text) => until_in(text).is_none(),
-        None => false,
     }
 }
 

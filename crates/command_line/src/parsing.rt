@@ -7,8 +7,8 @@ ghost use Rattle.command_line.specs.Reading.{HoldsCheck, HoldsGdb, HoldsLine, Ho
 
 use crate::contradictions::contradiction;
 use crate::endings::all_of;
-use crate::families::{compare_of, has_bad_until, hunt_of, merge_of, plan_of, shrink_of};
-use crate::fences::{fences_of, has_bad_fail_on};
+use crate::families::{compare_of, hunt_of, merge_of, plan_of, shrink_of};
+use crate::fences::{fences_of, has_bad_fail_on, has_bad_until};
 use crate::given::{is_given, is_set};
 use crate::numbers::{address_in, is_decimal, number_given, number_of, wide_given, wide_number_of};
 use crate::runs::{draw_of, execution_of, has_bad_form, has_bad_show, print_of, record_of, run_of};
@@ -36,6 +36,9 @@ const BAD_FAIL_ON: &str =
 
 /// What is said of a WHAT after `--until` that is none.
 const BAD_UNTIL: &str = "invalid value for '--until <WHAT>': it is bad or differ";
+
+/// What is said of a WHAT after `--until` of `fences` that is none.
+const BAD_FENCES_UNTIL: &str = "invalid value for '--until <WHAT>': it is missing";
 
 /// What is said of a WHAT after `--fail-on` of `fences` that is none.
 const BAD_FENCES_FAIL_ON: &str = "invalid value for '--fail-on <WHAT>': it is missing or never";
@@ -205,8 +208,8 @@ fn bad_word(name: &str, matches: &ArgMatches<'_>) -> Option<&'static str>
         Some(BAD_SHOW)
     } else if has_bad_fail_on(name, matches) {
         Some(bad_fail_on(name))
-    } else if has_bad_until(matches) {
-        Some(BAD_UNTIL)
+    } else if has_bad_until(name, matches) {
+        Some(bad_until(name))
     } else if has_bad_form(matches) {
         Some(BAD_FORM)
     } else {
@@ -220,6 +223,15 @@ fn bad_fail_on(name: &str) -> &'static str {
         BAD_FENCES_FAIL_ON
     } else {
         BAD_FAIL_ON
+    }
+}
+
+/// The same of a word after `--until`.
+fn bad_until(name: &str) -> &'static str {
+    if name == "fences" {
+        BAD_FENCES_UNTIL
+    } else {
+        BAD_UNTIL
     }
 }
 

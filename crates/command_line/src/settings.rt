@@ -317,6 +317,10 @@ pub struct Fences<'a> {
     pub steps: u32,
     /// Which tables give another exit status.
     pub fail_on: FencesFailOn,
+    /// Whether the search is over with the first number for which a fence is missing.
+    pub until_missing: bool,
+    /// After how many seconds no number is begun, if there is such a limit.
+    pub seconds: Option<u32>,
     /// The path of the folder that the executions which are told are written to; none is written where there is none.
     pub keep: Option<&'a str>,
     /// The path of the file that has the places to leave out.

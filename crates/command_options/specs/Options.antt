@@ -162,14 +162,16 @@ hunt_rules =
     ∷ number_given_rule (codes "seconds")
     ∷ []
 
--- which executions are looked at for missing fences, and how far, which tables the exit status tells of, where the executions that are told
--- go, which places are left out, and where fences are thought of
+-- which executions are looked at for missing fences, and how far, which tables the exit status tells of, where the search is over before its
+-- last number, where the executions that are told go, which places are left out, and where fences are thought of
 abbrev pub fence_rules : List Rule
 fence_rules =
     number_rule (codes "plans") (codes "1000")
     ∷ number_rule (codes "first") (codes "0")
     ∷ number_rule (codes "steps") (codes "100000000")
     ∷ defaulted_rule (codes "fail-on") (codes "missing")
+    ∷ text_rule (codes "until")
+    ∷ number_given_rule (codes "seconds")
     ∷ text_rule (codes "keep")
     ∷ text_rule (codes "accept")
     ∷ repeated_rule (codes "as-if-fence")

@@ -57,7 +57,7 @@ static HUNT: [Argument<'static>; 7] = [
 ];
 
 /// Which executions are looked at, and how far, and what of the missing fences is told.
-static FENCES: [Argument<'static>; 7] = [
+static FENCES: [Argument<'static>; 9] = [
     Argument::Number(NARROW, "plans", "1000", "Executions: 1 to 4294967295"),
     Argument::Number(NARROW, "first", "0", "Number of the first execution"),
     Argument::Number(
@@ -72,6 +72,8 @@ static FENCES: [Argument<'static>; 7] = [
         "missing",
         "Exit with 5 or 4 on: missing or never",
     ),
+    Argument::Text("until", "WHAT", "End with the first find: missing"),
+    Argument::NumberGiven(NARROW, "seconds", "Begin no number after so many seconds"),
     Argument::Text(
         "keep",
         "DIR",
