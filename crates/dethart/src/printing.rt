@@ -44,7 +44,9 @@ use command_line::{
 };
 use execution_commands::check_command;
 use host_io::RunError;
-use host_world::{HostMessages, HostOutput, Progress, ReadOutput, WeakHunter};
+use host_world::{
+    FenceSearcher, HostFiles, HostMessages, HostOutput, Progress, ReadOutput, WeakHunter,
+};
 use hunt_commands::{Finds, hunt_command, merge_command, plan_command, shrink_command};
 use hunt_comparison::compare_command;
 use past_commands::{PastFiles, replay_command, watch_command};
@@ -53,9 +55,7 @@ use run_commands::{order_command, run_command};
 use std::sync::Wait;
 use std::thread::Threads;
 use view_commands::{draw_command, trace_command};
-use weak_commands::{
-    FenceSearcher, FencesFailure, WeakExecuter, execution_command, fences_command,
-};
+use weak_commands::{FenceFinds, FencesFailure, WeakExecuter, execution_command, fences_command};
 
 /// Does what a command says that prints to standard output.
 pub(crate) fn print_answer<F: PastFiles, R: Threads + Wait + Sync>(
@@ -257,22 +257,34 @@ fn put_fences<F: Files, O: ReadOutput, R: Threads + Wait + Sync>(
     out: &mut O,
 ) -> ExitStatus
     ensures { OrRefused (λ status.
-        (a : AskedSearch (F.holds files.old) (F.begins files.old) (λ _ _ _ _ _. ⊤) asked.now) ×
+        (a : AskedSearch (F.holds files.old) (F.begins files.old) (λ _ _ _ _. ⊤) (λ _ _ _ _ _. ⊤)
+        asked.now) ×
         (O.took out.new ≡ O.took out.old ++ fences_text a.made.table) × O.is_out out.new ×
         (status ≡ fences_status asked.now.fail_on a.made.table) ×
         AreSaved F.was_given (fences_kept asked.now) (map as_recorded a.made.executions) files.old
         files.new) result }
 {
-    let mut progress = Progress::new(rt, asked.search.program.progress, asked.plans);
+    let progress = Progress::of_hunt(
+        rt,
+        asked.search.program.progress,
+        asked.plans,
+        asked.search.program.workers,
+        asked.seconds,
+    );
+    let messages = HostMessages { rt };
+    let Ok(finds) = FenceFinds::new(rt.alloc(), asked, &progress, &messages, HostFiles { rt })
+    else {
+        return finish::<RunError>(rt, Err(RunError::OutOfMemory));
+    };
     let answer = fences_command(
         threads,
         rt.alloc(),
         files,
-        &FenceSearcher,
+        &FenceSearcher { observer: &finds },
         asked,
-        &mut progress,
+        &finds,
         out,
-        &HostMessages { rt },
+        &messages,
     );
     // A file that can't be written is no fault of the output.
     let is_of_output = !matches!(answer, Err(FencesFailure::Unwritten(_)));

@@ -2,6 +2,7 @@
 //! host, so the relations of its files and of its output say nothing here: a command is proved for all that they may say.
 #![tactic(auto)]
 
+mod fence_searches;
 mod files;
 mod messages;
 mod output;
@@ -9,6 +10,7 @@ mod progress;
 mod saving;
 mod weak_hunts;
 
+pub use fence_searches::FenceSearcher;
 pub use files::HostFiles;
 pub use messages::HostMessages;
 pub use output::{HostOutput, ReadOutput};

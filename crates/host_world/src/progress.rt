@@ -3,7 +3,9 @@
 ghost use Rattle.std.specs.Prelude.{◌≡◌, None, false};
 
 use endings_finder::EndingsObserver;
+use execution_scripts::ExecutionFile;
 use fence_finder::FenceObserver;
+use fence_table::NamedGap;
 use hunter::{HuntObserver, ShrinkObserver};
 use machine::{Observer, UntracedMachine};
 use plan_hunt::{Row, are_well};
@@ -117,6 +119,17 @@ impl<'a> Progress<'a> {
         next
     }
 
+    /// Tells how far a search for missing fences is.
+    fn tell_fences(&self) {
+        if let Some(seconds) = self.next_second() {
+            let (done, all) = (self.plans.load(Ordering::SeqCst), self.all);
+            let failing = self.endings.load(Ordering::SeqCst);
+            let _unwritten = eprint!(self.rt;
+                "\rnumber {done} of {all}, {failing} fail for want of a fence, {seconds} s\x1b[K"
+            );
+        }
+    }
+
     /// Tells how far a hunt is.
     fn tell_hunt(&self) {
         let Some(seconds) = self.next_second() else {
@@ -206,15 +219,28 @@ impl HuntObserver for Progress<'_> {
 }
 
 impl FenceObserver for Progress<'_> {
-    fn before_block(&mut self, done: u32, failing: usize) -> u32 {
-        if let Some(seconds) = self.next_second() {
-            let all = self.all;
-            let _unwritten = eprint!(self.rt;
-                "\rnumber {done} of {all}, {failing} fail for want of a fence, {seconds} s\x1b[K"
-            );
-        }
+    fn before_block(&self, _done: u32, failing: usize) -> u32 {
+        self.endings.store(failing as u64, Ordering::SeqCst);
+        self.tell_fences();
         self.next_block()
     }
+
+    fn has_time(&self) -> bool {
+        HuntObserver::has_time(self)
+    }
+
+    fn after_number(&self) {
+        if self.clock.is_some() {
+            let _before = self.plans.fetch_add(1, Ordering::SeqCst);
+            self.tell_fences();
+        }
+    }
+
+    fn after_execution(&self) {
+        self.tell_fences();
+    }
+
+    fn found(&self, _gap: &NamedGap, _number: u32, _execution: Option<&ExecutionFile>) {}
 }
 
 impl EndingsObserver for Progress<'_> {

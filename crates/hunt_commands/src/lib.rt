@@ -26,7 +26,7 @@ pub use merging::merge_command;
 pub use neighbours::Apart;
 pub use planning::plan_command;
 pub use refusing::refused_for;
-pub use repeating::{tell_bounds, weak_line_of};
+pub use repeating::{line_of, quoted, tell_bounds, weak_line_of};
 pub use settings::{named_in, program_settings, settings_of, tell_decimals};
 pub use shrinking::shrink_command;
 pub use status::hunt_status;

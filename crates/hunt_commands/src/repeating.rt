@@ -178,7 +178,11 @@ pub fn weak_line_of(
 }
 
 /// The line of a command on a program for so many rounds, but for its plan: each option that the outcome depends on.
-fn line_of(
+///
+/// # Errors
+///
+/// The allocator's alone.
+pub fn line_of(
     alloc: Global,
     command: &str,
     program: &Program<'_>,
@@ -209,7 +213,11 @@ fn quoted_path(alloc: Global, path: &str) -> Result<String, AllocError> {
 }
 
 /// A word as a shell takes it: as it is, where it has letters, digits and the like alone, and else between quotes.
-fn quoted(alloc: Global, word: &str) -> Result<String, AllocError> {
+///
+/// # Errors
+///
+/// The allocator's alone.
+pub fn quoted(alloc: Global, word: &str) -> Result<String, AllocError> {
     if !word.is_empty() && word.bytes().all(is_plain) {
         return Ok(String::from_str(alloc, word)?);
     }

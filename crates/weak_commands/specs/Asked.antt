@@ -1,24 +1,27 @@
 -- The search for missing fences that a line asks for, and why it isn't done. `holds` and `begins` say what files hold, `lacks` and
--- `wasnt_given` that one couldn't be read or written, `failed` that the output failed, and `finds` that a search by some settings finds a
--- table, with these executions.
-use Rattle.std.specs.Prelude.{◌≡◌, ◌⊎◌, ℕ, List, map, false, true, Option, Some, None, is_some, option_map}
+-- `wasnt_given` that one couldn't be read or written, `failed` that the output failed, `comes_to guest departing i e` that the execution of
+-- number i of the guest that departs so comes to e, and `finds` that a search by some settings finds a table, with these executions.
+use Rattle.std.specs.Prelude.{◌≡◌, ◌⊎◌, ℕ, if◌then◌else◌, List, map, false, true, Option, Some, None, is_some, option_map}
 use Rattle.command_line.specs.declared.settings.Fences.{Fences}
-use Rattle.execution_file.specs.Views.{as_recorded}
 use Rattle.execution_file.specs.declared.file.ExecutionFile.{ExecutionFile}
 use Rattle.weak_commands.specs.Saved.{IsUnsavedIn}
 use Rattle.weak_commands.specs.Places.{IsAssumed, IsUnplaced}
 use Rattle.weak_commands.specs.declared.failure.FencesFailure.{FencesFailure}
 use Rattle.weak_commands.specs.declared.failure.FencesFailure.TheVariants as failures
-use Rattle.fence_finder.specs.MissingFences.{IsSearched}
+use Rattle.fence_finder.specs.MissingFences.{IsSearched, IsSearchedBy}
 use Rattle.fence_finder.specs.declared.settings.FenceSettings.{FenceSettings}
 use Rattle.fence_table.specs.Accepting.{accepted_in}
 use Rattle.fence_table.specs.declared.accept_error.AcceptError.TheVariants as accepting
 use Rattle.fence_table.specs.declared.fence_table.FenceTable.{FenceTable}
+use Rattle.fence_trials.specs.declared.departing.Departing.{Departing}
+use Rattle.fence_trials.specs.declared.guest.FenceGuest.{FenceGuest}
 use Rattle.hunt_commands.specs.Asked.{IsCutEnd, IsFileEnd, IsRefusedSo}
 use Rattle.hunt_commands.specs.Settings.{HasNumbers, HasRanges}
 use Rattle.hunt_commands.specs.declared.failure.HuntFailure.{HuntFailure}
 use Rattle.hunter.specs.Hunts.{hunt_fault}
 use Rattle.hunter.specs.declared.settings.HuntSettings.{HuntSettings}
+use Rattle.plan_hunt.specs.Endings.{Ended}
+use Rattle.plan_hunt.specs.declared.extent.Until.TheVariants.{Bad, Done}
 use Rattle.program_files.specs.Asked.{IsFileOfProgram, IsInputOf, IsProgramOf, LacksSpurious}
 use Rattle.program_files.specs.declared.files.FileFault.{FileFault}
 
@@ -35,34 +38,43 @@ accept_of asked = option_map (λ s. s.now) asked.accept
 abbrev pub keep_of : Fences → Option (List ℕ)
 keep_of asked = option_map (λ s. s.now) asked.keep
 
+-- the search is over where the line says: with the first number for which a fence is missing, or where the seconds that it gives are
+pub record HasSearchEnd (asked : Fences) (s : HuntSettings) : Type 0 where
+  pub until : s.until ≡ (if asked.until_missing then Bad else Done)
+  pub is_timed : s.is_timed ≡ is_some asked.seconds
+
 -- the settings have what the line says: of the executions, how many steps each has at most, the fences that are assumed, the places that the list accepts, and whether executions are kept
 pub record IsAskedSearch (asked : Fences) (accepted image : List ℕ) (s : FenceSettings) : Type 0 where
   pub numbers : HasNumbers asked.search asked.first asked.plans false s.hunt
   pub ranges : HasRanges asked.search image s.hunt
+  pub ends : HasSearchEnd asked s.hunt
   pub steps : s.steps ≡ asked.steps
   pub assumed : IsAssumed (words_of asked) s.hunt image s.assumed.items
   pub is_accepted : accepted_in accepted ≡ Some s.accepted
   pub keeps : s.keeps ≡ is_some asked.keep
 
 -- a search by what the line says, with this list of places: its settings, its table and the executions that it keeps
-pub record SetSearch (finds : FenceSettings → List ℕ → List ℕ → FenceTable → List ExecutionFile → Type 0)
+pub record SetSearch (comes_to : FenceGuest → Departing → ℕ → Ended → Type 0)
+    (finds : FenceSettings → List ℕ → List ℕ → FenceTable → List ExecutionFile → Type 0)
     (asked : Fences) (accepted image input : List ℕ) : Type 0 where
   pub settings : FenceSettings
   pub table : FenceTable
   pub executions : List ExecutionFile
   pub set : IsAskedSearch asked accepted image settings
   pub searched : IsSearched settings.hunt image input table
+  pub told : IsSearchedBy comes_to settings image input table
   pub found : finds settings image input table executions
 
 -- the search that a line asks for
 pub record AskedSearch (holds : List ℕ → List ℕ → Type 0) (begins : List ℕ → ℕ → List ℕ → Type 0)
+    (comes_to : FenceGuest → Departing → ℕ → Ended → Type 0)
     (finds : FenceSettings → List ℕ → List ℕ → FenceTable → List ExecutionFile → Type 0) (asked : Fences) : Type 0 where
   pub image : List ℕ
   pub input : List ℕ
   pub accepted : List ℕ
   pub given : IsProgramOf holds begins asked.search.program image input
   pub list : IsInputOf holds (accept_of asked) accepted
-  pub made : SetSearch finds asked accepted image input
+  pub made : SetSearch comes_to finds asked accepted image input
 
 -- ---- refusals
 

@@ -1,10 +1,11 @@
-ghost use Rattle.std.specs.Prelude.{◌≡◌, ◌⊎◌, ◌++◌, IfErr, IfOk, None, OnErr, Some, map, option_map};
+ghost use Rattle.std.specs.Prelude.{◌≡◌, ◌⊎◌, ◌++◌, IfErr, IfOk, None, OnErr, Some, false, map, option_map};
 ghost use Rattle.execution_file.specs.Views.{as_recorded};
-ghost use Rattle.weak_commands.specs.Asked.{AskedSearch, EndsFences, IsSearchEnd, IsWorldEnd, SetSearch, keep_of};
+ghost use Rattle.weak_commands.specs.Asked.{AskedSearch, EndsFences, HasSearchEnd, IsSearchEnd, IsWorldEnd, SetSearch, keep_of};
 ghost use Rattle.weak_commands.specs.Saved.{AreSaved};
 ghost use Rattle.weak_commands.specs.Status.{fences_status};
 ghost use Rattle.fence_table.specs.Text.{fences_text};
 ghost use Rattle.host_io.specs.Taken.{BeganText};
+ghost use Rattle.hunt_commands.specs.Settings.{HasNumbers};
 ghost use Rattle.program_files.specs.Asked.{IsInputOf};
 ghost use Rattle.program_files.specs.Failures.{HasFailed, IsFileFailure};
 
@@ -15,9 +16,11 @@ use crate::searches::FenceSearches;
 use crate::status::fences_status;
 use crate::telling::{tell_compared, tell_missing, tell_running};
 use command_line::Fences;
-use fence_finder::{FenceObserver, FenceSettings, FoundFences};
+use fence_finder::{FenceSettings, FoundFences};
 use fence_table::Accepted;
 use hunt_commands::{named_in, refused_for, settings_of, tell_decimals};
+use hunter::HuntSettings;
+use plan_hunt::Until;
 use program_files::{
     ExitStatus, Files, Messages, NamedBytes, Output, ProgramFiles, ProgressLine, RunFailure,
     read_file, read_program,
@@ -39,7 +42,7 @@ pub fn fences_command<
     O: Output,
     M: Messages,
     W: FenceSearches,
-    P: FenceObserver + ProgressLine,
+    P: ProgressLine,
     R: Threads + Wait + Sync,
 >(
     threads: &R,
@@ -47,21 +50,21 @@ pub fn fences_command<
     files: &mut F,
     searcher: &W,
     asked: &Fences<'_>,
-    progress: &mut P,
+    progress: &P,
     out: &mut O,
     messages: &M,
 ) -> Result<ExitStatus, FencesFailure>
     // All that was printed is the table of the search that the line asks for, of which the status is, and the executions that it keeps were
     // written to the files of the folder that the line names.
     ensures searches { IfOk result (λ status.
-        (a : AskedSearch (F.holds files.old) (F.begins files.old) W.finds asked.now) ×
+        (a : AskedSearch (F.holds files.old) (F.begins files.old) W.comes_to W.finds asked.now) ×
         (O.took out.new ≡ O.took out.old ++ fences_text a.made.table) × O.is_out out.new ×
         (status ≡ fences_status asked.now.fail_on a.made.table) ×
         AreSaved F.was_given (keep_of asked.now) (map as_recorded a.made.executions) files.old
         files.new) }
     // Else nothing was printed, or a beginning of such a table.
     ensures begun { OnErr result ((O.took out.new ≡ O.took out.old) ⊎
-        ((a : AskedSearch (F.holds files.old) (F.begins files.old) W.finds asked.now) ×
+        ((a : AskedSearch (F.holds files.old) (F.begins files.old) W.comes_to W.finds asked.now) ×
         BeganText (O.took out.old) (O.took out.new) (fences_text a.made.table))) }
     // Where the line names no folder, no file was written.
     ensures unasked { asked.now.keep ≡ None → files.new ≡ files.old }
@@ -77,7 +80,7 @@ pub fn fences_command<
     keep(files, alloc, asked.keep, &found.executions)?;
     out.hand_on()?;
     // What was asked for is out.
-    let _untold = tell_missing(alloc, asked, &found.table.missing, messages);
+    let _untold = tell_missing(alloc, asked, &found, messages);
     tell_running(asked, &found.table, messages);
     tell_compared(found.compared, messages);
     tell_decimals(&asked.search, &given, messages);
@@ -97,12 +100,29 @@ fn read_list<F: Files>(files: &F, alloc: Global, path: Option<&str>) -> Result<V
     }
 }
 
+/// The same settings of a search that is over where the line says.
+fn with_end(asked: &Fences<'_>, settings: HuntSettings) -> HuntSettings
+    ensures end { HasSearchEnd asked.now result }
+    ensures numbers { HasNumbers asked.now.search asked.now.first asked.now.plans false settings →
+        HasNumbers asked.now.search asked.now.first asked.now.plans false result }
+    ensures ranges { result.header.ranges ≡ settings.header.ranges }
+{
+    let mut settings = settings;
+    settings.until = if asked.until_missing {
+        Until::Bad
+    } else {
+        Until::Done
+    };
+    settings.is_timed = asked.seconds.is_some();
+    settings
+}
+
 /// Searches in what the files gave, and prints the table.
 fn search_given<
     O: Output,
     M: Messages,
     W: FenceSearches,
-    P: FenceObserver + ProgressLine,
+    P: ProgressLine,
     R: Threads + Wait + Sync,
 >(
     threads: &R,
@@ -111,16 +131,18 @@ fn search_given<
     files: &ProgramFiles,
     list: &[u8],
     asked: &Fences<'_>,
-    progress: &mut P,
+    progress: &P,
     out: &mut O,
     messages: &M,
 ) -> Result<FoundFences, FencesFailure>
     ensures searches { IfOk result (λ f.
-        (s : SetSearch W.finds asked.now list.now files.now.image.items files.now.input.items) ×
+        (s : SetSearch W.comes_to W.finds asked.now list.now files.now.image.items
+        files.now.input.items) ×
         (O.took out.new ≡ O.took out.old ++ fences_text s.table) × (f.table ≡ s.table) ×
         (f.executions.items ≡ s.executions)) }
     ensures begun { OnErr result ((O.took out.new ≡ O.took out.old) ⊎
-        ((s : SetSearch W.finds asked.now list.now files.now.image.items files.now.input.items) ×
+        ((s : SetSearch W.comes_to W.finds asked.now list.now files.now.image.items
+        files.now.input.items) ×
         BeganText (O.took out.old) (O.took out.new) (fences_text s.table))) }
     ensures errors { IfErr result (IsSearchEnd asked.now list.now files.now.image.items
         (HasFailed O.failures O.is_stuck out.old out.new)) }
@@ -135,6 +157,7 @@ fn search_given<
         asked.plans,
         false,
     )?;
+    let hunt = with_end(asked, hunt);
     let assumed = fences_of(alloc, &asked.as_if_fence, &hunt, &files.image, messages)?;
     let settings = FenceSettings {
         hunt,
@@ -150,7 +173,7 @@ fn search_given<
         }
         None => {
             let (image, input) = (files.image.as_slice(), files.input.as_slice());
-            let answer = searcher.search(threads, alloc, image, input, settings, progress, out);
+            let answer = searcher.search(threads, alloc, image, input, settings, out);
             progress.end();
             Ok(answer?)
         }

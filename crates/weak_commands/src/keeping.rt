@@ -48,6 +48,25 @@ pub fn keep<F: Files>(
     }
 }
 
+/// Writes an execution to the file `found-N.execution` of a folder that has a name. The folder is made where there is none.
+///
+/// # Errors
+///
+/// `SinkFailed` where the file can't be made or written, and `OutOfMemory`.
+pub(crate) fn keep_found<F: Files>(
+    files: &mut F,
+    alloc: Global,
+    folder: &str,
+    number: usize,
+    file: &ExecutionFile,
+) -> Result<(), RunError> {
+    let Ok(path) = format!(in alloc; "{folder}/found-{number}.execution") else {
+        return Err(RunError::OutOfMemory);
+    };
+    files.make_folder(folder);
+    files.overwrite(&path, &ExecutionText { file })
+}
+
 /// The same in a folder.
 fn keep_in<F: Files>(
     files: &mut F,

@@ -1,36 +1,35 @@
 //! Lines that repeat what was found. They are told when what was asked for is out already, so it is no failure where they can't be
 //! written, or there is no memory for them.
 
+use crate::repeating::Repeating;
 use command_line::Fences;
-use fence_finder::Compared;
-use fence_table::{FenceTable, Missing};
-use hunt_commands::{tell_bounds, weak_line_of};
+use fence_finder::{Compared, FoundFences};
+use fence_table::FenceTable;
+use hunt_commands::tell_bounds;
 use program_files::Messages;
 use std::alloc::{AllocError, Global};
 
-/// Says on standard error, for each missing fence, the line that writes the execution of the number that shows it. With fences that the
-/// image hasn't there is no such line.
+/// Says on standard error, for each missing fence, the line that repeats the execution that shows it, or the file in which that is kept. One
+/// that runs on past its own plan isn't that of its number as it is drawn.
 pub(crate) fn tell_missing<M: Messages>(
     alloc: Global,
     asked: &Fences<'_>,
-    missing: &[Missing],
+    found: &FoundFences,
     messages: &M,
 ) -> Result<(), AllocError> {
-    if !asked.as_if_fence.is_empty() {
-        if !missing.is_empty() && asked.keep.is_none() {
-            messages.tell(format_args!(
-                "--keep FOLDER writes the executions: no other command takes --as-if-fence"
-            ));
+    let repeating = Repeating::of(alloc, asked)?;
+    for (index, missing) in found.table.missing.iter().enumerate() {
+        let (number, shown) = (index.saturating_add(1), missing.shown);
+        let is_drawn = asked.as_if_fence.is_empty() && shown.steps <= found.compared.own_steps;
+        match asked.keep {
+            Some(folder) if !is_drawn => {
+                messages.tell(format_args!("missing {number}: {folder}/{number}.execution"));
+            }
+            _ => {
+                let said = format_args!("missing {number}");
+                repeating.tell(messages, said, shown.number, is_drawn);
+            }
         }
-        return Ok(());
-    }
-    let program = weak_line_of(alloc, &asked.search.program, asked.steps)?;
-    let seed = asked.search.seed;
-    for (index, missing) in missing.iter().enumerate() {
-        let (number, shown) = (index.saturating_add(1), missing.shown.number);
-        messages.tell(format_args!(
-            "missing {number}: {program} --plan-number {shown} --seed {seed}"
-        ));
     }
     Ok(())
 }

@@ -6,7 +6,7 @@ use Rattle.program_files.proofs.Told.{where_refused}
 use Rattle.host_io.proofs.Answered.{begun}
 use Rattle.weak_hunter.specs.WeakHunts.{IsWeakReason}
 use Rattle.weak_hunter.specs.declared.error.WeakHuntError.TheVariants.{Hunt}
-use Rattle.weak_commands.proofs.searches.FenceSearcherFenceSearches.search.Goals as goal
+use Rattle.host_world.proofs.fence_searches.FenceSearcherFenceSearches.search.Goals as goal
 
 pub returns-clause-begun : goal.returns-clause-begun
 returns-clause-begun g c =
@@ -16,6 +16,7 @@ returns-clause-begun g c =
       b.answer.table,
       [],
       b.is_text.table,
+      b.is_text.told,
       tt,
       subst (λ (t : List ℕ). BeganText old new t) b.is_text.is_text b.began,
     )) h) (begun _ c.find_fences.ensures.writes)
