@@ -1,3 +1,4 @@
+pub mod Again
 pub mod Allowed
 pub mod Atomicity
 pub mod Computes

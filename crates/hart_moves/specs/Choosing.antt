@@ -171,6 +171,23 @@ pub record IsGot (v : Move) (address n : ℕ) (o : Option ℕ) (found : Option G
   pub number : got.number ≡ o
   pub sources : (k : ℕ) → k < n → slice_index got.sources k ≡ v.source (address + k)
 
+-- a choice does an operation that a state comes to
+pub record IsChoiceOf (a : RunState) (c : Coming) (d : Choice) : Type 0 where
+  pub instruction : d.instruction ≡ c.instruction
+  pub access : d.access ≡ access_of c.operation
+  pub next : d.next ≡ plus a.pc 4
+
+-- what is found is a load that gets what the latest choice gets, from the same stores, and no earlier
+pub record IsAgain (latest found : Option Choice) : Type 0 where
+  pub earlier : Choice
+  pub choice : Choice
+  pub was : latest ≡ Some earlier
+  pub is : found ≡ Some choice
+  pub stores : writing choice.access ≡ false
+  pub time : earlier.time ≤ choice.time
+  pub result : earlier.result ≡ choice.result
+  pub sources : earlier.sources ≡ choice.sources
+
 -- what is found can stand for a move
 pub record IsFound (m : List Stored) (a : RunState) (found : Option Choice) (v : Move) : Type 0 where
   pub choice : Choice

@@ -10,6 +10,7 @@ mod loading;
 mod moving;
 mod offering;
 mod operating;
+mod repeating;
 mod standing;
 mod stopping;
 mod storing;

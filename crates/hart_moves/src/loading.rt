@@ -10,7 +10,7 @@ ghost use Rattle.all_endings.specs.HartRuns.{Gets};
 ghost use Rattle.all_endings.specs.RunStates.{Move, RunState as AbstractState};
 ghost use Rattle.hart_states.specs.Readings.{IsSpan};
 ghost use Rattle.hart_states.specs.States.{listed, state_of};
-ghost use Rattle.hart_moves.specs.Choosing.{IsComing, IsFound, IsGot, LoadsSo, exchanged, put_back};
+ghost use Rattle.hart_moves.specs.Choosing.{IsChoiceOf, IsComing, IsFound, IsGot, LoadsSo, exchanged, put_back};
 
 use crate::coming::Coming;
 use hart_states::{Choice, ListedStore, RunState, read_at};
@@ -138,7 +138,7 @@ pub(crate) fn load_at(
         LoadsSo (listed list.now) (opening_bytes pages.now.memory) (state_of state.now)
         coming.now.operation v →
         IsFound (listed list.now) (state_of state.now) result v }
-    ensures fits { IfSome result (λ c. c.access ≡ access_of coming.now.operation) }
+    ensures is { IfSome result (λ d. IsChoiceOf (state_of state.now) coming.now d) }
 {
     let (address, width) = (coming.operation.address, coming.operation.width);
     match got_at(list, pages, &coming.known, address, width, time) {

@@ -1,4 +1,4 @@
-//! The moves of a memory operation, at each time at which it can stand.
+//! The moves of a memory operation, at the times at which it can stand.
 ghost use Rattle.std.specs.Prelude.{◌≡◌, ◌+◌, ◌≤◌, ◌^◌, true, length, Contains, IfOk, IfSome, OnOk};
 ghost use Rattle.pages.specs.Memory.{width_bytes};
 ghost use Rattle.round_schedule.specs.Accesses.{address_of, bytes_of};
@@ -7,14 +7,14 @@ ghost use Rattle.rule_checker.specs.CarriedBounds.{AreRegisters};
 ghost use Rattle.all_endings.specs.Endings.{opening_bytes};
 ghost use Rattle.all_endings.specs.HartRuns.{IsPlaced, Stands};
 ghost use Rattle.all_endings.specs.RunStates.{Move};
-ghost use Rattle.run_bounds.specs.Operations.{access_of};
 ghost use Rattle.hart_states.specs.declared.following.Successor.{Successor as Left};
 ghost use Rattle.hart_states.specs.States.{listed, state_of};
-ghost use Rattle.hart_moves.specs.Choosing.{DoesSo, FailsSo, IsComing, IsFound};
+ghost use Rattle.hart_moves.specs.Choosing.{DoesSo, FailsSo, IsChoiceOf, IsComing, IsFound};
 ghost use Rattle.hart_moves.specs.Moves.{HasFollower};
 
 use crate::coming::Coming;
 use crate::loading::load_at;
+use crate::repeating::is_again;
 use crate::standing::may_stand;
 use crate::storing::{failing, is_placed, storing_at};
 use all_endings::earlier_moves_are_lower;
@@ -80,7 +80,7 @@ pub(crate) fn operation_at(
         DoesSo hart (listed list.now) (opening_bytes pages.now.memory) (state_of state.now)
         coming.now.operation v →
         IsFound (listed list.now) (state_of state.now) result v }
-    ensures fits { IfSome result (λ c. c.access ≡ access_of coming.now.operation) }
+    ensures is { IfSome result (λ d. IsChoiceOf (state_of state.now) coming.now d) }
 {
     let _pages = pages.count();
     let access = coming.operation.access();
@@ -113,7 +113,7 @@ fn placed_at(
         coming.now.operation v →
         (writing v.access ≡ true → IsPlaced hart (listed list.now) v) →
         IsFound (listed list.now) (state_of state.now) result v }
-    ensures fits { IfSome result (λ c. c.access ≡ access_of coming.now.operation) }
+    ensures is { IfSome result (λ d. IsChoiceOf (state_of state.now) coming.now d) }
 {
     match operation_at(list, pages, hart, state, coming, time) {
         Some(choice)
@@ -148,9 +148,14 @@ pub(crate) fn operate(
     let _pages = pages.count();
     let mut found = Vec::new(alloc);
     add(&mut found, list, hart, state, failing(state, coming))?;
+    let mut latest: Option<Choice> = None;
     for time in 0..list.len() + 2 {
         let choice = placed_at(list, pages, hart, state, coming, time);
+        if is_again(&latest, &choice) {
+            continue;
+        }
         add(&mut found, list, hart, state, choice)?;
+        latest = choice;
     }
     Ok(found)
 }

@@ -8,7 +8,7 @@ ghost use Rattle.all_endings.specs.HartRuns.{IsPlaced};
 ghost use Rattle.all_endings.specs.RunStates.{Move};
 ghost use Rattle.all_endings.specs.StoreLists.{Stored, has_byte, no_store};
 ghost use Rattle.hart_states.specs.States.{listed, state_of, stored_of};
-ghost use Rattle.hart_moves.specs.Choosing.{FailsSo, IsComing, IsFound, IsReserved, LeavesAlone, StoresSo, failed_access, stored_result};
+ghost use Rattle.hart_moves.specs.Choosing.{FailsSo, IsChoiceOf, IsComing, IsFound, IsReserved, LeavesAlone, StoresSo, failed_access, stored_result};
 
 use crate::coming::Coming;
 use hart_states::{Choice, ListedStore, RunState, store_at};
@@ -163,7 +163,7 @@ pub(crate) fn storing_at(
     ensures found { (v : Move) → v.instruction ≡ coming.now.instruction → v.time ≡ time →
         StoresSo hart (listed list.now) (state_of state.now) coming.now.operation v →
         IsFound (listed list.now) (state_of state.now) result v }
-    ensures fits { IfSome result (λ c. c.access ≡ access_of coming.now.operation) }
+    ensures is { IfSome result (λ d. IsChoiceOf (state_of state.now) coming.now d) }
 {
     match coming.operation.kind {
         Kind::StoreConditional if !may_succeed(list, hart, state, &coming.operation, time) => None,

@@ -4,6 +4,7 @@ use Rattle.std.proofs.lemmas.List.{length-map}
 use Rattle.all_endings.specs.Endings.{opening_bytes}
 use Rattle.hart_states.specs.States.{listed, state_of, stored_of}
 use Rattle.hart_moves.proofs.Inverting.{time_within}
+use Rattle.hart_moves.proofs.Again.{found_again}
 use Rattle.hart_moves.proofs.operating.operate.Goals as goal
 
 pub loop-time-preserved : goal.loop-time-preserved
@@ -13,7 +14,26 @@ loop-time-preserved c = record {
     | inr late ↦ c.in_ok-add-2.ensures.adds v (c.placed_at-choice.ensures.found v same (omega (arith, late, l)) stands so place)
   ];
   fails = λ v same so. let f = c.loop-time.invariant.fails v same so in (f.0, c.in_ok-add-2.ensures.keeps f.0 f.1, f.2);
+  is = c.placed_at-choice.ensures.is;
+  latest = λ v f. c.in_ok-add-2.ensures.adds v f;
 }
+
+pub loop-time-preserved-then-is_again : goal.loop-time-preserved-then-is_again
+loop-time-preserved-then-is_again c =
+    let i = c.loop-time.invariant in
+    let choice = c.placed_at-choice.ensures in
+    record {
+      does = λ v same stands so place l. elim (cases_lt v.time c.loop-time.time) [
+        | inl early ↦ i.does v same stands so place early
+        | inr late ↦
+            i.latest v
+            (found_again (listed c.args.list.now) (state_of c.args.state.now) c.args.coming.now c.loop-time.latest c.placed_at-choice.result v (c.is_again.ensures c.if-is_again.true) i.is choice.is
+            (choice.found v same (omega (arith, late, l)) stands so place))
+      ];
+      fails = i.fails;
+      is = i.is;
+      latest = i.latest;
+    }
 
 pub returns-clause-does : goal.returns-clause-does
 returns-clause-does c = λ v same stands so place.

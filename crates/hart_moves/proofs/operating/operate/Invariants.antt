@@ -1,10 +1,10 @@
-use Rattle.std.proofs.Common.{◌≡◌, ◌<◌, true}
+use Rattle.std.proofs.Common.{◌≡◌, ◌<◌, true, IfSome}
 use Rattle.round_schedule.specs.Accesses.{stores as writing}
 use Rattle.all_endings.specs.Endings.{opening_bytes}
 use Rattle.all_endings.specs.HartRuns.{IsPlaced, Stands}
 use Rattle.all_endings.specs.RunStates.{Move}
 use Rattle.hart_states.specs.States.{listed, state_of}
-use Rattle.hart_moves.specs.Choosing.{DoesSo, FailsSo}
+use Rattle.hart_moves.specs.Choosing.{DoesSo, FailsSo, IsChoiceOf, IsFound}
 use Rattle.hart_moves.specs.Moves.{HasFollower}
 use Rattle.hart_moves.proofs.operating.operate.Given as goal
 
@@ -15,4 +15,6 @@ invariant-loop-time l = record {
       (writing v.access ≡ true → IsPlaced l.hart (listed l.list) v) → v.time < l.time → HasFollower l.hart (listed l.list) (state_of l.state) v l.found.items;
   fails : (v : Move) → v.instruction ≡ l.coming.instruction → FailsSo (state_of l.state) l.coming.operation v →
       HasFollower l.hart (listed l.list) (state_of l.state) v l.found.items;
+  is : IfSome l.latest (λ d. IsChoiceOf (state_of l.state) l.coming d);
+  latest : (v : Move) → IsFound (listed l.list) (state_of l.state) l.latest v → HasFollower l.hart (listed l.list) (state_of l.state) v l.found.items;
 }
