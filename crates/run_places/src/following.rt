@@ -135,9 +135,8 @@ fn places_behind(
         Follows h m (state_of place.now.state) v s →
         IsCovered m (places_of ps.items) (place_after h m (place_of place.now) v)) }
 {
-    let mut left = successors;
     let mut behind = Vec::new(alloc);
-    while let Some(successor) = left.pop() {
+    for successor in successors {
         let reached = place_behind(alloc, place, successor)?;
         behind.push(reached)?;
     }

@@ -24,6 +24,8 @@ pub struct HartWalk {
     pub offered: Vec<ListedStore>,
     /// How it ends, where it did all its stores of the list.
     pub ends: Vec<HartEnd>,
+    /// How many places there are.
+    pub places: usize,
 }
 
 /// What is said of a hart's runs.
@@ -62,9 +64,11 @@ pub fn walk_hart(
     let mut walk = HartWalk {
         offered: Vec::new(alloc),
         ends: Vec::new(alloc),
+        places: 0,
     };
     for done in 0..most {
         if done >= places.all.len() {
+            walk.places = done;
             return Ok(Walk::Whole(walk));
         }
         let outcome = follow(alloc, against, &places.all[done])?;

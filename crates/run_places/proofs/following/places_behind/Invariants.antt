@@ -1,4 +1,4 @@
-use Rattle.std.proofs.Common.{ℕ, ◌⊎◌, List, Contains, vec_len}
+use Rattle.std.proofs.Common.{ℕ, List, Contains}
 use Rattle.all_endings.specs.RunStates.{Move}
 use Rattle.all_endings.specs.StoreLists.{Stored}
 use Rattle.all_endings.specs.Walking.{IsCovered, place_after}
@@ -10,9 +10,6 @@ use Rattle.run_places.proofs.following.places_behind.Given as goal
 
 abbrev pub invariant-loop-successor : goal.invariant-loop-successor
 invariant-loop-successor l = record {
-  covered : (h : ℕ) (m : List Stored) (v : Move) (s : Successor) → Contains l.fn.successors.items s →
-      Follows h m (state_of l.place.state) v s → Contains l.left.items s ⊎ IsCovered m (places_of l.behind.items) (place_after h m (place_of l.place) v);
+  covered : (h : ℕ) (m : List Stored) (v : Move) (s : Successor) → Contains l.yielded s → Follows h m (state_of l.place.state) v s →
+      IsCovered m (places_of l.behind.items) (place_after h m (place_of l.place) v);
 }
-
-abbrev pub decreases-loop-successor : goal.decreases-loop-successor
-decreases-loop-successor l = vec_len l.left
