@@ -1,0 +1,11 @@
+//! A proved table of all endings of a guest under RVWMO: all lists of stores in the order of global memory are looked through, each hart
+//! alone against each.
+#![tactic(auto)]
+
+mod finding;
+mod looking;
+mod memory;
+
+pub use finding::{Bounds, Found, ListsObserver, Reason, find_all};
+pub use hart_ends::{HartEnd, TableEnding};
+pub use run_places::Omission;
