@@ -1,2 +1,5 @@
 mod Confirmed
+mod Fresh
 mod Opened
+mod Same
+mod Whole

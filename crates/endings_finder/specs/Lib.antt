@@ -1,1 +1,2 @@
 pub mod AllEndings
+pub mod Checked

@@ -6,11 +6,12 @@ ghost use Rattle.host_io.specs.Writes.{IsFaultOr, WritesAnswer};
 ghost use Rattle.hunter.specs.Hunts.{IsHuntReason, IsImageCause, has_bad_range, hunt_fault};
 ghost use Rattle.hunter.specs.declared.error.HuntError.{HuntError as Refusal};
 ghost use Rattle.hunter.specs.declared.error.HuntError.TheVariants.{Run};
+ghost use Rattle.guest_rounds.specs.Guests.{opening_guest};
 ghost use Rattle.endings_finder.specs.AllEndings.{AreAllowed, AreConfirmed, AreKept, HasAll, IsSearchText, IsSearched, guest_of, guest_of_script};
 
 use crate::confirming::{Confirmed, has_waiting};
 use crate::guest::{Guest, searched_guest, searched_ranges};
-use crate::others::others_than;
+use crate::others::{Reach, others_than};
 use crate::searching::{EndingsObserver, search_through};
 use crate::settings::EndingsSettings;
 use all_search::{Guest as SearchedGuest, Limits, Omission, Search};
@@ -170,8 +171,8 @@ fn findings_of<O: EndingsObserver>(
         guest.now.ranges.now guest.now.keeps f.confirmed.endings.items
         f.confirmed.executions.items) }
     ensures all { IfOk result (λ f. f.others ≡ Absent →
-        HasAll (guest_of_script guest.now.scripted) guest.now.ranges.now settings.now.steps
-        f.confirmed.endings.items) }
+        HasAll (opening_guest image.now guest.now.scripted.input.now guest.now.scripted.harts)
+        guest.now.ranges.now settings.now.steps f.confirmed.endings.items) }
 {
     let searched = searched_guest(guest.alloc, image, guest.scripted.input, settings)?;
     let see = searched_ranges(guest.alloc, guest.ranges)?;
@@ -181,7 +182,11 @@ fn findings_of<O: EndingsObserver>(
         confirmed,
         why,
     } = proposals;
-    let others = others_than(guest, settings.steps, &confirmed.endings, why);
+    let reach = Reach {
+        steps: settings.steps,
+        nodes: settings.nodes,
+    };
+    let others = others_than(guest, image, reach, &confirmed.endings, why, observer)?;
     Ok(Findings {
         nodes,
         confirmed,

@@ -1,4 +1,5 @@
-ghost use Rattle.std.specs.Prelude.{◌≡◌, ◌≤◌, IfOk, map};
+ghost use Rattle.std.specs.Prelude.{◌≡◌, ◌+◌, ◌≤◌, ◌<◌, ◌^◌, All, IfOk, map};
+ghost use Rattle.ending_judge.specs.JudgedEndings.{ranges_of};
 ghost use Rattle.round_schedule.specs.declared.bounds.TheConstants.{MOST_HARTS};
 ghost use Rattle.pages.specs.declared.pages.TheConstants.{MOST_PAGES};
 
@@ -57,7 +58,10 @@ pub(crate) fn searched_guest(
 pub(crate) fn searched_ranges(
     alloc: Global,
     ranges: &[SeenRange],
-) -> Result<Vec<Range>, OutOfMemory> {
+) -> Result<Vec<Range>, OutOfMemory>
+    ensures ranges { IfOk result (λ v. v.items ≡ ranges_of ranges.now) }
+    ensures fits { IfOk result (λ v. All (λ r. r.start + r.len < 2 ^ 64) v.items) }
+{
     let mut searched = Vec::new(alloc);
     for range in ranges {
         searched.push(Range {
