@@ -11,6 +11,7 @@ _dethart() {
         *:'hunt --until') words='bad differ' ;;
         *:'merge --fail-on') words='differ bad never' ;;
         *:'fences --fail-on') words='missing never' ;;
+        *:'fences --until') words='missing' ;;
         *:'trace --as') words='perfetto' ;;
         *:*' --harts' | *:*' --pages' | *:*' --rounds' | *:*' --workers' | *:*' --quota' | *:*' --budget' | *:*' --plan-number' | *:*' --seed' | *:*' --every' | *:*' --round' | *:*' --hart' | *:*' --count' | *:*' --place' | *:*' --see' | *:*' --see-object' | *:*' --from' | *:*' --to' | *:*' --plans' | *:*' --first' | *:*' --seconds' | *:*' --steps' | *:*' --as-if-fence' | *:*' --nodes') return ;;
         *) [ "${COMP_WORDS[COMP_CWORD - 2]}" != --see ] || return ;;
@@ -26,7 +27,7 @@ _dethart() {
         hunt) words='--flat --spurious --harts --pages --rounds --workers --input --progress --seed --see --see-object --plans --first --fail-on --until --seconds --weak --steps --help' ;;
         shrink) words='--flat --spurious --harts --pages --rounds --workers --input --progress --seed --see --see-object --plan-number --help' ;;
         merge) words='--fail-on --help' ;;
-        fences) words='--flat --spurious --harts --pages --rounds --workers --input --progress --seed --see --see-object --plans --first --steps --fail-on --keep --accept --as-if-fence --help' ;;
+        fences) words='--flat --spurious --harts --pages --rounds --workers --input --progress --seed --see --see-object --plans --first --steps --fail-on --until --seconds --keep --accept --as-if-fence --help' ;;
         all) words='--flat --spurious --harts --pages --input --progress --see --see-object --steps --nodes --seconds --keep --help' ;;
         compare) words='--help' ;;
         plan) words='--harts --seed --help' ;;

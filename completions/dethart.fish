@@ -138,6 +138,8 @@ complete -c dethart -n '__fish_seen_subcommand_from fences' -l plans -x -d 'Exec
 complete -c dethart -n '__fish_seen_subcommand_from fences' -l first -x -d 'Number of the first execution'
 complete -c dethart -n '__fish_seen_subcommand_from fences' -l steps -x -d 'Steps of an execution, at most'
 complete -c dethart -n '__fish_seen_subcommand_from fences' -l fail-on -x -a 'missing never' -d 'Exit with 5 or 4 on: missing or never'
+complete -c dethart -n '__fish_seen_subcommand_from fences' -l until -x -a 'missing' -d 'End with the first find: missing'
+complete -c dethart -n '__fish_seen_subcommand_from fences' -l seconds -x -d 'Begin no number after so many seconds'
 complete -c dethart -n '__fish_seen_subcommand_from fences' -l keep -r -F -d 'Write each execution that is told to a file in DIR'
 complete -c dethart -n '__fish_seen_subcommand_from fences' -l accept -r -F -d 'Places that are known, and left out'
 complete -c dethart -n '__fish_seen_subcommand_from fences' -l as-if-fence -x -d 'As if a fence stood before it; can be repeated'

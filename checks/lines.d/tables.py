@@ -35,6 +35,7 @@ class Line:
     counts: list = dataclasses.field(default_factory=list)
     kept: str = ""
     told: list | None = dataclasses.field(default_factory=list)
+    told_counts: list = dataclasses.field(default_factory=list)
     until: bytes = b""
     is_full: bool = False
     limit: int = 0
@@ -241,6 +242,10 @@ def wanted(lines, mark, rest):
             line.kept = rest
         elif mark == "!":
             line.told = [*(line.told or []), GAP if rest == "..." else rest.encode() + b"\n"]
+        elif mark == "!+":
+            count, _, beginning = rest.partition(" ")
+            line.told_counts.append((int(count), beginning.encode()))
+            line.told = line.told or [GAP]
         elif mark == "status":
             line.status, line.told = int(rest), None if rest == "2" else line.told
         elif mark == "error":
