@@ -57,7 +57,7 @@ impl<'a> WeakGuest<'a> {
     ///
     /// `OutOfMemory` alone.
     pub fn execute(&self, number: u32, is_recorded: bool) -> Result<TimedMachine, OutOfMemory> {
-        self.execute_within(number, is_recorded, self.bounds)
+        self.execute_within(number, is_recorded, self.bounds, &UnobservedHunt)
     }
 
     /// The same without a record, and an observer learns of the rounds while they are done.
@@ -70,26 +70,16 @@ impl<'a> WeakGuest<'a> {
         number: u32,
         observer: &O,
     ) -> Result<TimedMachine, OutOfMemory> {
-        self.made(number, false, self.bounds, observer)
+        self.execute_within(number, false, self.bounds, observer)
     }
 
-    /// The same within other bounds. In each fifth number a store comes early, where an execution without departures has one that
-    /// can; in the others loads read old and stores come late.
+    /// The execution of a number within other bounds, of whose rounds an observer learns. In each fifth number a store comes early, where an
+    /// execution without departures has one that can; in the others loads read old and stores come late.
     ///
     /// # Errors
     ///
     /// `OutOfMemory` alone.
-    pub fn execute_within(
-        &self,
-        number: u32,
-        is_recorded: bool,
-        bounds: Bounds,
-    ) -> Result<TimedMachine, OutOfMemory> {
-        self.made(number, is_recorded, bounds, &UnobservedHunt)
-    }
-
-    /// The execution of a number within these bounds.
-    fn made<O: HuntObserver>(
+    pub fn execute_within<O: HuntObserver>(
         &self,
         number: u32,
         is_recorded: bool,
@@ -133,23 +123,12 @@ impl<'a> WeakGuest<'a> {
         machine.run_observed(&rows, bounds, observer)
     }
 
-    /// The execution by the plan of a number with just these departures, as far as they can be.
+    /// The execution by the plan of a number with just these departures, as far as they can be. An observer learns of its rounds.
     ///
     /// # Errors
     ///
     /// `OutOfMemory` alone.
-    pub fn execute_with(
-        &self,
-        number: u32,
-        departures: Vec<Departure>,
-        is_recorded: bool,
-        bounds: Bounds,
-    ) -> Result<TimedMachine, OutOfMemory> {
-        self.made_with(number, departures, is_recorded, bounds, &UnobservedHunt)
-    }
-
-    /// The same, and an observer learns of the rounds.
-    fn made_with<O: HuntObserver>(
+    pub fn execute_with<O: HuntObserver>(
         &self,
         number: u32,
         departures: Vec<Departure>,
@@ -199,7 +178,7 @@ impl<'a> WeakGuest<'a> {
                 break;
             };
             let departures = Vec::from_slice(self.alloc, &[departure])?;
-            let machine = self.made_with(number, departures, is_recorded, bounds, observer)?;
+            let machine = self.execute_with(number, departures, is_recorded, bounds, observer)?;
             if machine.came_early() {
                 return Ok(Some(machine));
             }
@@ -218,7 +197,7 @@ impl<'a> WeakGuest<'a> {
             steps: self.bounds.steps.min(MOST_STEPS),
             until_fault: true,
         };
-        self.made_with(number, Vec::new(self.alloc), true, bounds, observer)
+        self.execute_with(number, Vec::new(self.alloc), true, bounds, observer)
     }
 
     /// What each execution begins with.
