@@ -5,13 +5,14 @@ use plan_hunt::{HuntObserver, Row};
 /// How many executions are made first with a fence. Each block after the second has as many as were made before it.
 const FIRST_BLOCK: u32 = 64;
 
-/// A number that fails at a spot is looked for.
+/// A number that fails at a spot is looked for. An observer learns of the rounds.
 #[derive(Clone, Copy)]
-pub(crate) struct AtSpot {
+pub(crate) struct AtSpot<'a, O> {
     pub spot: Spot,
+    pub observer: &'a O,
 }
 
-impl TrialObserver for AtSpot {
+impl<O: HuntObserver> TrialObserver for AtSpot<'_, O> {
     ghost use Rattle.std.specs.Prelude.{◌↔◌, IsTrue};
     ghost use Rattle.fence_trials.specs.Trials.{FailsAt};
 
@@ -26,7 +27,7 @@ impl TrialObserver for AtSpot {
     }
 }
 
-impl HuntObserver for AtSpot {
+impl<O: HuntObserver> HuntObserver for AtSpot<'_, O> {
     fn before_block(&self, _done: u32, _rows: &[Row]) -> u32 {
         u32::MAX
     }
@@ -37,5 +38,7 @@ impl HuntObserver for AtSpot {
 
     fn after_plan(&self) {}
 
-    fn after_rounds(&self, _rounds: u32) {}
+    fn after_rounds(&self, rounds: u32) {
+        self.observer.after_rounds(rounds);
+    }
 }

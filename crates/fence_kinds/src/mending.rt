@@ -8,7 +8,7 @@ use fence_search::{Searcher, Weakness};
 use fence_table::FenceKind;
 use fence_trials::{Executer, FenceGuest, Found, Ordinary, try_departures};
 use pages::OutOfMemory;
-use plan_hunt::{Extent, Until};
+use plan_hunt::{Extent, HuntObserver, Until};
 use std::thread::Threads;
 
 /// A place at which a fence is missing, and the numbers that are tried with one there.
@@ -25,15 +25,16 @@ pub struct Place<'a, 'b> {
 
 impl Place<'_, '_> {
     /// The first kind of fence with which none of the numbers fails at the place any more, as if the fence stood there: neither by what its
-    /// execution draws, nor by the departures that were found.
+    /// execution draws, nor by the departures that were found. An observer learns of the rounds of these executions.
     ///
     /// # Errors
     ///
     /// `OutOfMemory` alone.
-    pub fn weakest_fence<E: Executer + Sync, R: Threads + Sync>(
+    pub fn weakest_fence<E: Executer + Sync, O: HuntObserver + Sync, R: Threads + Sync>(
         &self,
         rt: &R,
         executer: &E,
+        observer: &O,
     ) -> Result<Option<FenceKind>, OutOfMemory>
         requires { self.now.first + self.now.count < 2 ^ 32 }
         // Each number was executed with it, and fails elsewhere at most. With each kind before it one failed there.
@@ -41,7 +42,7 @@ impl Place<'_, '_> {
     {
         for index in 0..KINDS {
             let kind = kind_at(index);
-            if self.mends(rt, executer, kind)? {
+            if self.mends(rt, executer, observer, kind)? {
                 return Ok(Some(kind));
             }
         }
@@ -49,10 +50,11 @@ impl Place<'_, '_> {
     }
 
     /// Whether none of the numbers fails at the place, as if a fence of a kind stood there.
-    fn mends<E: Executer + Sync, R: Threads + Sync>(
+    fn mends<E: Executer + Sync, O: HuntObserver + Sync, R: Threads + Sync>(
         &self,
         rt: &R,
         executer: &E,
+        observer: &O,
         kind: FenceKind,
     ) -> Result<bool, OutOfMemory>
         requires { self.now.first + self.now.count < 2 ^ 32 }
@@ -66,27 +68,28 @@ impl Place<'_, '_> {
             kind,
         )?;
         let fenced = self.guest.assuming(&fences);
-        if self.do_founds_fail(executer, &fenced)? {
+        if self.do_founds_fail(executer, observer, &fenced)? {
             return Ok(false);
         }
-        let fails = self.does_one_fail(rt, executer, &fenced)?;
+        let fails = self.does_one_fail(rt, executer, observer, &fenced)?;
         Ok(!fails)
     }
 
     /// Whether one of the executions that were found to fail for want of a fence at the place fails there, as a guest that has one.
-    fn do_founds_fail<E: Executer>(
+    fn do_founds_fail<E: Executer, O: HuntObserver>(
         &self,
         executer: &E,
+        observer: &O,
         fenced: &FenceGuest<'_>,
     ) -> Result<bool, OutOfMemory>
         ensures { IfOk result (λ yes.
             OnTrue yes (DoesFail (E.comes_to fenced.now) self.now.runs.now)) }
     {
-        if self.does_found_fail(executer, fenced, &self.weakness.shown)? {
+        if self.does_found_fail(executer, observer, fenced, &self.weakness.shown)? {
             return Ok(true);
         }
         for found in &self.weakness.others {
-            if self.does_found_fail(executer, fenced, found)? {
+            if self.does_found_fail(executer, observer, fenced, found)? {
                 return Ok(true);
             }
         }
@@ -94,9 +97,10 @@ impl Place<'_, '_> {
     }
 
     /// Whether an execution that was found does.
-    fn does_found_fail<E: Executer>(
+    fn does_found_fail<E: Executer, O: HuntObserver>(
         &self,
         executer: &E,
+        observer: &O,
         fenced: &FenceGuest<'_>,
         found: &Found,
     ) -> Result<bool, OutOfMemory>
@@ -104,15 +108,17 @@ impl Place<'_, '_> {
             OnTrue yes (DoesFail (E.comes_to fenced.now) self.now.runs.now)) }
     {
         let (number, departures) = (found.number, &found.departures);
-        let trial = try_departures(executer, fenced, self.runs, number, departures)?;
+        let runs = self.runs;
+        let trial = try_departures(executer, fenced, runs, number, departures, observer)?;
         Ok(trial.fails_at(self.weakness.spot))
     }
 
     /// Whether one of the numbers fails at the place, as a guest that has a fence there.
-    fn does_one_fail<E: Executer + Sync, R: Threads + Sync>(
+    fn does_one_fail<E: Executer + Sync, O: HuntObserver + Sync, R: Threads + Sync>(
         &self,
         rt: &R,
         executer: &E,
+        observer: &O,
         fenced: &FenceGuest<'_>,
     ) -> Result<bool, OutOfMemory>
         requires { self.now.first + self.now.count < 2 ^ 32 }
@@ -134,6 +140,7 @@ impl Place<'_, '_> {
             workers: self.workers,
             observer: &AtSpot {
                 spot: self.weakness.spot,
+                observer,
             },
         };
         let trials = searcher.try_all(rt)?;

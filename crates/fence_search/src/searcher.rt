@@ -120,7 +120,7 @@ impl<E: Executer + Sync, O: HuntObserver + TrialObserver + Sync> Searcher<'_, '_
                 return Ok(tried.trial);
             }
         }
-        try_number(self.executer, self.guest, self.runs, number)
+        try_number(self.executer, self.guest, self.runs, number, self.observer)
     }
 
     /// Adds what came of the next number.

@@ -62,7 +62,7 @@ pub fn search_fences<E: Executer + Sync, O: HuntObserver + TrialObserver + Sync,
     // Each number was executed and is counted once, and none that fails is lost.
     ensures { IfOk result (IsSearchBy (E.comes_to guest.now) (O.answers observer.now) extent) }
 {
-    let runs = ordinary_runs(executer, guest)?;
+    let runs = ordinary_runs(executer, guest, observer)?;
     let searcher = Searcher {
         executer,
         guest,

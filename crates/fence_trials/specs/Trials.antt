@@ -1,13 +1,14 @@
 -- What comes of the executions of numbers, beside ordinary runs. `comes_to departing e` says that the execution of the number that departs so
 -- comes to e.
-use Rattle.std.specs.Prelude.{◌≡◌, ⊤, ℕ}
+use Rattle.std.specs.Prelude.{◌≡◌, ◌⊎◌, ⊤, ℕ}
 use Rattle.std.specs.List.{Any}
 use Rattle.plan_hunt.specs.Endings.{Ended}
 use Rattle.fence_places.specs.declared.naming.Gap.{Gap}
 use Rattle.fence_trials.specs.Departing.{AreNone}
-use Rattle.fence_trials.specs.Well.{IsWellBeside}
+use Rattle.fence_trials.specs.Well.{IsCutOff, IsWellBeside}
 use Rattle.fence_trials.specs.declared.departing.Departing.{Departing}
 use Rattle.fence_trials.specs.declared.departing.Departing.TheVariants.{Drawn}
+use Rattle.fence_trials.specs.declared.failing.Failing.TheVariants.{Stuck}
 use Rattle.fence_trials.specs.declared.failing.Judgement.{Judgement}
 use Rattle.fence_trials.specs.declared.failing.Judgement.TheVariants as judgements
 use Rattle.fence_trials.specs.declared.ordinary.Ordinary.{Ordinary}
@@ -24,36 +25,45 @@ EndsWell comes_to o = (e : Ended) × comes_to e × IsWellBeside o e
 abbrev pub EndsBadly : (Ended → Type 0) → Ordinary → Type 0
 EndsBadly comes_to o = (e : Ended) × comes_to e × (IsWellBeside o e → ⊥)
 
--- what is said of one execution
+-- or to one in which a hart hasn't stopped
+abbrev pub EndsCutOff : (Ended → Type 0) → Type 0
+EndsCutOff comes_to = (e : Ended) × comes_to e × IsCutOff e
+
+-- what is said of one execution. One that is stuck was cut off too
 abbrev pub IsJudged : (Ended → Type 0) → Ordinary → Judgement → Type 0
 IsJudged comes_to o judgements.Well = EndsWell comes_to o
+IsJudged comes_to o (judgements.Fails Stuck) = EndsCutOff comes_to
 IsJudged comes_to o (judgements.Fails failing) = EndsBadly comes_to o
-IsJudged comes_to o judgements.Cut = EndsBadly comes_to o
+IsJudged comes_to o judgements.Cut = EndsCutOff comes_to
 IsJudged comes_to o judgements.Void = ⊤
 
 -- the number fails without departures too
 abbrev pub FailsAnyway : (Departing → Ended → Type 0) → Ordinary → Type 0
 FailsAnyway comes_to o = (d : Departing) × AreNone d × EndsBadly (comes_to d) o
 
+-- without departures it is well, or cut off
+abbrev pub HoldsAnyway : (Departing → Ended → Type 0) → Ordinary → Type 0
+HoldsAnyway comes_to o = (d : Departing) × AreNone d × (EndsWell (comes_to d) o ⊎ EndsCutOff (comes_to d))
+
 -- the number fails with some departures
 abbrev pub FailsSo : (Departing → ℕ → Ended → Type 0) → Ordinary → ℕ → Type 0
 FailsSo comes_to o n = (d : Departing) × EndsBadly (comes_to d n) o
 
--- what is said of a number: it is well, or its execution as it is drawn isn't; and then that without departures isn't either, or it is
--- something else, which is told of this number
+-- what is said of a number: it is well, or its execution as it is drawn isn't; and then that without departures fails too, or doesn't, and
+-- what is told is told of this number. What runs on was cut off
 abbrev pub IsTrialOf : (Departing → Ended → Type 0) → Ordinary → ℕ → Trial → Type 0
 IsTrialOf comes_to o n Well = EndsWell (comes_to Drawn) o
 IsTrialOf comes_to o n Anyway = EndsBadly (comes_to Drawn) o × FailsAnyway comes_to o
-IsTrialOf comes_to o n Running = EndsBadly (comes_to Drawn) o
-IsTrialOf comes_to o n Unnamed = EndsBadly (comes_to Drawn) o
-IsTrialOf comes_to o n (Fails found) = EndsBadly (comes_to Drawn) o × (found.number ≡ n)
+IsTrialOf comes_to o n Running = EndsCutOff (comes_to Drawn)
+IsTrialOf comes_to o n Unnamed = EndsBadly (comes_to Drawn) o × HoldsAnyway comes_to o
+IsTrialOf comes_to o n (Fails found) = EndsBadly (comes_to Drawn) o × HoldsAnyway comes_to o × (found.number ≡ n)
 IsTrialOf comes_to o n Unconfirmed = ⊤
 
--- it is neither well, nor does it fail without departures too
+-- it is none of a number that is well, fails without departures too, or runs on
 abbrev pub IsLookedInto : ℕ → Trial → Type 0
 IsLookedInto n Well = ⊥
 IsLookedInto n Anyway = ⊥
-IsLookedInto n Running = ⊤
+IsLookedInto n Running = ⊥
 IsLookedInto n Unnamed = ⊤
 IsLookedInto n (Fails found) = found.number ≡ n
 IsLookedInto n Unconfirmed = ⊤

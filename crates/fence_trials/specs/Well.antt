@@ -1,7 +1,9 @@
 -- When an execution ends as it has to.
-use Rattle.std.specs.Prelude.{◌≡◌, ⊤, ℕ, ◌<◌, List, Option, Some, None, true, option_map}
-use Rattle.std.specs.List.{list_all}
+use Rattle.std.specs.Prelude.{◌≡◌, ⊤, ℕ, ◌<◌, Bool, true, false, List, Option, Some, None, option_map}
+use Rattle.std.specs.List.{list_all, list_any}
 use Rattle.plan_hunt.specs.Endings.{Ended, ends_well}
+use Rattle.plan_hunt.specs.declared.hart_ending.HartEnding.{HartEnding}
+use Rattle.plan_hunt.specs.declared.hart_ending.HartEnding.TheVariants.{Loops, Runs, Stopped}
 use Rattle.fence_trials.specs.Departing.{AreNone}
 use Rattle.fence_trials.specs.declared.departing.Departing.{Departing}
 use Rattle.fence_trials.specs.declared.ordinary.Ordinary.{Ordinary}
@@ -20,6 +22,16 @@ pub record IsWell (output seen : Option (List ℕ)) (e : Ended) : Type 0 where
 -- the same of the ordinary runs that were made
 abbrev pub IsWellBeside : Ordinary → Ended → Type 0
 IsWellBeside o e = IsWell (option_map (λ v. v.items) o.output) (option_map (λ v. v.items) o.seen) e
+
+-- a hart hasn't stopped
+abbrev pub goes_on : HartEnding → Bool
+goes_on Runs = true
+goes_on Loops = true
+goes_on (Stopped stop) = false
+
+-- where an execution ended, a hart hadn't stopped
+abbrev pub IsCutOff : Ended → Type 0
+IsCutOff e = list_any goes_on e.stops ≡ true
 
 -- ---- ordinary runs. `comes_to departing i e` says that the execution of number i that departs so comes to e
 

@@ -3,7 +3,7 @@ ghost use Rattle.std.specs.Prelude.{IfOk, IfSome};
 use crate::departing::Departing;
 use crate::guest::{FenceGuest, Span};
 use pages::OutOfMemory;
-use plan_hunt::Ending;
+use plan_hunt::{Ending, HuntObserver};
 
 /// What an execution has come to.
 #[derive(Drop)]
@@ -24,17 +24,19 @@ pub trait Executer {
     /// An execution of a guest that has this number and departs so comes to this.
     ghost comes_to: { Guest → Departs → ℕ → Ended → Type 0 };
 
-    /// Makes the execution of a number. Where that is none, since a store came early that its hart didn't do, it comes to nothing.
+    /// Makes the execution of a number, of whose rounds an observer learns. Where it is none, since a store came early that its hart didn't do,
+    /// it comes to nothing.
     ///
     /// # Errors
     ///
     /// `OutOfMemory` alone.
-    fn execute(
+    fn execute<O: HuntObserver>(
         &self,
         guest: &FenceGuest<'_>,
         departing: Departing<'_>,
         number: u32,
         span: Span,
+        observer: &O,
     ) -> Result<Option<Came>, OutOfMemory>
         ensures { IfOk result (λ found. IfSome found (λ c.
             comes_to guest.now departing.entry number c.ending)) };
@@ -49,13 +51,14 @@ impl Executer for TimedExecuter {
 
     ghost comes_to = { λ _ _ _ _. ⊤ };
 
-    fn execute(
+    fn execute<O: HuntObserver>(
         &self,
         guest: &FenceGuest<'_>,
         departing: Departing<'_>,
         number: u32,
         span: Span,
+        observer: &O,
     ) -> Result<Option<Came>, OutOfMemory> {
-        guest.come_to(number, departing, span)
+        guest.come_to(number, departing, span, observer)
     }
 }

@@ -6,6 +6,7 @@ use crate::state::{came_of, runs_on};
 use departures::Departure;
 use hunt_table::SeenRange;
 use pages::OutOfMemory;
+use plan_hunt::HuntObserver;
 use std::alloc::Global;
 use timed_machine::{AssumedFence, Bounds, TimedMachine};
 use weak_executions::{Opening, WeakGuest};
@@ -107,21 +108,22 @@ impl<'a> FenceGuest<'a> {
     }
 
     /// The machine after the execution of a number with these departures, which ended at the first hart that stopped otherwise than by
-    /// exit 0, or after so many steps.
+    /// exit 0, or after so many steps. An observer learns of its rounds.
     ///
     /// # Errors
     ///
     /// `OutOfMemory` alone.
-    pub fn execute(
+    pub fn execute<O: HuntObserver>(
         &self,
         number: u32,
         departing: Departing<'_>,
         is_recorded: bool,
         span: Span,
+        observer: &O,
     ) -> Result<TimedMachine, OutOfMemory> {
         let steps = span.own.min(span.all);
-        let mut machine = self.begun(number, departing, is_recorded, steps)?;
-        match self.go_on(&mut machine, number, span.all) {
+        let mut machine = self.begun(number, departing, is_recorded, steps, observer)?;
+        match self.go_on(&mut machine, number, span.all, observer) {
             Ok(()) => Ok(machine),
             Err(error) => Err(error),
         }
@@ -132,33 +134,34 @@ impl<'a> FenceGuest<'a> {
     /// # Errors
     ///
     /// `OutOfMemory` alone.
-    pub(crate) fn come_to(
+    pub(crate) fn come_to<O: HuntObserver>(
         &self,
         number: u32,
         departing: Departing<'_>,
         span: Span,
+        observer: &O,
     ) -> Result<Option<Came>, OutOfMemory> {
-        let machine = self.execute(number, departing, false, span)?;
+        let machine = self.execute(number, departing, false, span, observer)?;
         let came = came_of(self, &machine);
         drop(machine);
         came
     }
 
     /// The machine after the execution of a number with these departures, by its own plan.
-    fn begun(
+    fn begun<O: HuntObserver>(
         &self,
         number: u32,
         departing: Departing<'_>,
         is_recorded: bool,
         steps: u64,
+        observer: &O,
     ) -> Result<TimedMachine, OutOfMemory> {
-        let bounds = self.bounds(steps);
+        let (maker, bounds) = (&self.maker, self.bounds(steps));
         match departing {
-            Departing::Drawn => self.maker.execute_within(number, is_recorded, bounds),
+            Departing::Drawn => maker.execute_within(number, is_recorded, bounds, observer),
             Departing::Listed(departures) => {
                 let departures = copied(self.alloc, departures)?;
-                self.maker
-                    .execute_with(number, departures, is_recorded, bounds)
+                maker.execute_with(number, departures, is_recorded, bounds, observer)
             }
         }
     }
@@ -173,18 +176,19 @@ impl<'a> FenceGuest<'a> {
 
     /// Where a hart of an execution runs, it goes on by the plan of the next number and without departures, until a hart stops otherwise
     /// than by exit 0, or until so many steps are taken in all.
-    fn go_on(
+    fn go_on<O: HuntObserver>(
         &self,
         machine: &mut TimedMachine,
         number: u32,
         steps: u64,
+        observer: &O,
     ) -> Result<(), OutOfMemory> {
         if machine.steps() >= steps || machine.is_void() || !runs_on(machine, self.harts()) {
             return Ok(());
         }
         machine.depart(Vec::new(self.alloc));
         let rows = self.maker.rows(number.wrapping_add(1))?;
-        machine.run_within(&rows, self.bounds(steps))
+        machine.run_observed(&rows, self.bounds(steps), observer)
     }
 }
 

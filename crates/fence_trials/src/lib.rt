@@ -5,6 +5,7 @@
 //! trusted.
 #![tactic(auto)]
 
+mod attempt;
 mod departing;
 mod executer;
 mod failing;

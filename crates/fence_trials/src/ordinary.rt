@@ -1,17 +1,18 @@
 //! What runs without departures come to, and what comes of executions beside them.
 ghost use Rattle.std.specs.Prelude.{◌≡◌, ◌≢◌, ◌↔◌, ℕ, ◌+◌, IfOk, IfSome, IsTrue, List, None, OnOk, option_map, false};
 ghost use Rattle.fence_trials.specs.Trials.{IsJudged};
-ghost use Rattle.fence_trials.specs.Well.{AreOrdinaryRuns, IsExpected, IsOrdinaryRun, IsWellBeside};
-ghost use Rattle.fence_trials.specs.declared.failing.Judgement.TheVariants.{Void, Well};
+ghost use Rattle.fence_trials.specs.Well.{AreOrdinaryRuns, IsCutOff, IsExpected, IsOrdinaryRun, IsWellBeside};
+ghost use Rattle.fence_trials.specs.declared.failing.Failing.TheVariants.{Stuck};
+ghost use Rattle.fence_trials.specs.declared.failing.Judgement.TheVariants.{Cut, Fails, Void, Well};
 ghost use Rattle.plan_hunt.specs.Endings.{Ended};
 
-use crate::departing::{Departing, no_departures};
+use crate::departing::no_departures;
 use crate::executer::{Came, Executer};
 use crate::failing::{Failing, Judgement};
 use crate::guest::{FenceGuest, Span};
 use crate::state::first_failed;
 use pages::OutOfMemory;
-use plan_hunt::{Ending, are_well};
+use plan_hunt::{Ending, HuntObserver, are_well};
 use std::alloc::Global;
 
 /// How many runs without departures say what is ordinary.
@@ -79,14 +80,15 @@ fn agree(
     Ok(())
 }
 
-/// Makes the runs that say what is ordinary.
+/// Makes the runs that say what is ordinary. An observer learns of their rounds.
 ///
 /// # Errors
 ///
 /// `OutOfMemory` alone.
-pub fn ordinary_runs<E: Executer>(
+pub fn ordinary_runs<E: Executer, O: HuntObserver>(
     executer: &E,
     guest: &FenceGuest<'_>,
+    observer: &O,
 ) -> Result<Ordinary, OutOfMemory>
     // Where each of them ends well, each does so as they agree.
     ensures { IfOk result (AreOrdinaryRuns (E.comes_to guest.now) 12) }
@@ -100,23 +102,30 @@ pub fn ordinary_runs<E: Executer>(
     };
     let mut longest = 0;
     for number in 0..RUNS {
-        longest = make_run(executer, guest, &mut ordinary, number)?.max(longest);
+        longest = make_run(executer, guest, &mut ordinary, number, observer)?.max(longest);
     }
     ordinary.settle(longest);
     Ok(ordinary)
 }
 
 /// Makes one of these runs. Answers how many steps it took, and 0 where it doesn't end well.
-fn make_run<E: Executer>(
+fn make_run<E: Executer, O: HuntObserver>(
     executer: &E,
     guest: &FenceGuest<'_>,
     ordinary: &mut Ordinary,
     number: u32,
+    observer: &O,
 ) -> Result<u64, OutOfMemory>
     requires { AreOrdinaryRuns (E.comes_to guest.now) number ordinary.old }
     ensures { OnOk result (AreOrdinaryRuns (E.comes_to guest.now) (number + 1) ordinary.new) }
 {
-    match executer.execute(guest, no_departures(), number, ordinary.own_span())? {
+    match executer.execute(
+        guest,
+        no_departures(),
+        number,
+        ordinary.own_span(),
+        observer,
+    )? {
         Some(came) => add_run(guest.alloc, ordinary, number, &came),
         // Nothing departs, so no store comes early.
         None => Err(OutOfMemory),
@@ -210,87 +219,8 @@ impl Ordinary {
         }
     }
 
-    /// How the execution of a number with these departures seems to fail, if it does: one that runs on is taken to do so by any plan.
-    ///
-    /// # Errors
-    ///
-    /// `OutOfMemory` alone.
-    pub(crate) fn seeming(
-        &self,
-        guest: &FenceGuest<'_>,
-        number: u32,
-        departing: Departing<'_>,
-    ) -> Result<Option<Failing>, OutOfMemory> {
-        match self.judgement_within(guest, number, departing, self.own_span())? {
-            Judgement::Fails(failing) => Ok(Some(failing)),
-            Judgement::Cut if self.hangs_after.is_some() => Ok(Some(Failing::Stuck)),
-            Judgement::Cut | Judgement::Well | Judgement::Void => Ok(None),
-        }
-    }
-
-    /// How it fails, if it does.
-    ///
-    /// # Errors
-    ///
-    /// `OutOfMemory` alone.
-    pub(crate) fn failing(
-        &self,
-        guest: &FenceGuest<'_>,
-        number: u32,
-        departing: Departing<'_>,
-    ) -> Result<Option<Failing>, OutOfMemory> {
-        match self.judgement(guest, number, departing)? {
-            Judgement::Fails(failing) => Ok(Some(failing)),
-            Judgement::Cut | Judgement::Well | Judgement::Void => Ok(None),
-        }
-    }
-
-    /// What comes of the execution of a number with these departures.
-    ///
-    /// # Errors
-    ///
-    /// `OutOfMemory` alone.
-    pub(crate) fn judgement(
-        &self,
-        guest: &FenceGuest<'_>,
-        number: u32,
-        departing: Departing<'_>,
-    ) -> Result<Judgement, OutOfMemory> {
-        self.judgement_within(guest, number, departing, self.whole_span())
-    }
-
-    /// The same of an execution of so many steps.
-    fn judgement_within(
-        &self,
-        guest: &FenceGuest<'_>,
-        number: u32,
-        departing: Departing<'_>,
-        span: Span,
-    ) -> Result<Judgement, OutOfMemory> {
-        let came = guest.come_to(number, departing, span)?;
-        Ok(self.judgement_of(&came))
-    }
-
-    /// What comes of the execution of a number with these departures, by whoever makes it.
-    ///
-    /// # Errors
-    ///
-    /// `OutOfMemory` alone.
-    pub(crate) fn judgement_by<E: Executer>(
-        &self,
-        executer: &E,
-        guest: &FenceGuest<'_>,
-        departing: Departing<'_>,
-        number: u32,
-    ) -> Result<Judgement, OutOfMemory>
-        ensures { IfOk result (IsJudged (E.comes_to guest.now departing.entry number) self.now) }
-    {
-        let came = executer.execute(guest, departing, number, self.whole_span())?;
-        Ok(self.judgement_of(&came))
-    }
-
     /// What comes of what an execution has come to, if it is one.
-    fn judgement_of(&self, came: &Option<Came>) -> Judgement
+    pub(crate) fn judgement_of(&self, came: &Option<Came>) -> Judgement
         ensures came { IfSome came.now (λ c. IsJudged (λ e. e ≡ c.ending) self.now result) }
         ensures void { came.now ≡ None → result ≡ Void }
     {
@@ -304,6 +234,8 @@ impl Ordinary {
     fn judged(&self, ending: &Ending, steps: u64) -> Judgement
         ensures well { result ≡ Well → IsWellBeside self.now ending.now }
         ensures bad { IsWellBeside self.now ending.now → result ≡ Well }
+        ensures cut { result ≡ Cut → IsCutOff ending.now }
+        ensures stuck { result ≡ Fails Stuck → IsCutOff ending.now }
     {
         if !are_well(ending.stops()) {
             return match first_failed(ending.stops()) {

@@ -1,12 +1,13 @@
 //! A list of departures is made as short as it can be.
 
+use crate::attempt::Attempt;
 use crate::departing::Departing;
 use crate::failing::Failing;
-use crate::guest::{FenceGuest, copied};
-use crate::ordinary::Ordinary;
+use crate::guest::copied;
 use access_times::Early;
 use departures::{Departure, Way};
 use pages::OutOfMemory;
+use plan_hunt::HuntObserver;
 use std::alloc::Global;
 
 /// How many executions are made at most to shorten a list.
@@ -14,10 +15,8 @@ const MOST_RUNS: u32 = 400;
 
 /// An execution whose departures are left out as far as it fails without them.
 #[derive(Drop)]
-struct Shortening<'a, 'b> {
-    guest: &'a FenceGuest<'b>,
-    ordinary: &'a Ordinary,
-    number: u32,
+struct Shortening<'a, 'b, 'c, O> {
+    attempt: &'a Attempt<'b, 'c, O>,
     failing: Failing,
     /// Whether an execution is followed by another plan too, past where it is cut off by its own.
     is_whole: bool,
@@ -31,24 +30,21 @@ struct Shortening<'a, 'b> {
 /// # Errors
 ///
 /// `OutOfMemory` alone.
-pub(crate) fn shortened(
-    guest: &FenceGuest<'_>,
-    ordinary: &Ordinary,
-    number: u32,
+pub(crate) fn shortened<O: HuntObserver>(
+    attempt: &Attempt<'_, '_, O>,
     failing: Failing,
     departures: &[Departure],
 ) -> Result<Vec<Departure>, OutOfMemory> {
+    let alloc = attempt.guest.alloc;
     let mut shortening = Shortening {
-        guest,
-        ordinary,
-        number,
+        attempt,
         failing,
         is_whole: false,
         runs: MOST_RUNS,
     };
     // Where it seems to hang and doesn't, what it fails by comes after that.
     shortening.is_whole = !shortening.still_fails(departures)?;
-    let mut needed = copied(guest.alloc, departures)?;
+    let mut needed = copied(alloc, departures)?;
     shortening.leave_out_most(&mut needed)?;
     for index in 0..needed.len() {
         shortening.simplify(&mut needed, index)?;
@@ -56,7 +52,7 @@ pub(crate) fn shortened(
     Ok(needed)
 }
 
-impl Shortening<'_, '_> {
+impl<O: HuntObserver> Shortening<'_, '_, '_, O> {
     /// Whether the execution fails in the same way with these departures alone.
     fn still_fails(&mut self, departures: &[Departure]) -> Result<bool, OutOfMemory> {
         if self.runs == 0 {
@@ -65,9 +61,9 @@ impl Shortening<'_, '_> {
         self.runs -= 1;
         let departing = Departing::Listed(departures);
         let failing = if self.is_whole {
-            self.ordinary.failing(self.guest, self.number, departing)?
+            self.attempt.failing(departing)?
         } else {
-            self.ordinary.seeming(self.guest, self.number, departing)?
+            self.attempt.seeming(departing)?
         };
         match failing {
             Some(failing) => Ok(failing.is_like(self.failing)),
@@ -117,7 +113,7 @@ impl Shortening<'_, '_> {
         start: usize,
         size: usize,
     ) -> Result<bool, OutOfMemory> {
-        let fewer = without(self.guest.alloc, needed, start, size)?;
+        let fewer = without(self.attempt.guest.alloc, needed, start, size)?;
         let still_fails = self.still_fails(&fewer)?;
         if still_fails {
             *needed = fewer;
@@ -131,7 +127,7 @@ impl Shortening<'_, '_> {
             return Ok(());
         };
         let way = departure.way;
-        let mut changed = copied(self.guest.alloc, needed)?;
+        let mut changed = copied(self.attempt.guest.alloc, needed)?;
         if self.finds_smaller(&mut changed, index, way)? {
             *needed = changed;
         }

@@ -1,4 +1,8 @@
 //! How far the harts of an execution have come.
+ghost use Rattle.std.specs.Prelude.{◌≡◌, None, false, true};
+ghost use Rattle.std.specs.List.{list_all, list_any};
+ghost use Rattle.fence_trials.specs.Well.{goes_on};
+ghost use Rattle.plan_hunt.specs.Endings.{ends_well};
 
 use crate::executer::Came;
 use crate::guest::FenceGuest;
@@ -44,11 +48,15 @@ fn hart_ending(machine: &TimedMachine, number: usize) -> HartEnding {
     }
 }
 
-/// The first hart that stopped otherwise than by exit 0, and how.
-pub(crate) fn first_failed(harts: &[HartEnding]) -> Option<(u8, Stop)> {
-    for (number, hart) in harts.iter().enumerate() {
-        if let HartEnding::Stopped(stop) = *hart {
-            if !hart.is_well() {
+/// The first hart that stopped otherwise than by exit 0, and how. Where there is none and not all harts are well, one hasn't stopped.
+#[tactic(auto, using(crate::proofs::Judged::one_goes_on))]
+pub(crate) fn first_failed(harts: &[HartEnding]) -> Option<(u8, Stop)>
+    ensures { result ≡ None → list_all ends_well harts.now ≡ false → list_any goes_on harts.now ≡
+        true }
+{
+    for number in 0..harts.len() {
+        if let HartEnding::Stopped(stop) = harts[number] {
+            if !harts[number].is_well() {
                 return Some(((number % 64) as u8, stop));
             }
         }

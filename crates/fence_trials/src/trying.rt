@@ -1,8 +1,10 @@
 ghost use Rattle.std.specs.Prelude.{◌≢◌, IfOk};
-ghost use Rattle.fence_trials.specs.Trials.{EndsBadly, FailsSo, IsLookedInto, IsTrialOf};
+ghost use Rattle.fence_trials.specs.Trials.{FailsSo, IsJudged, IsLookedInto, IsTrialOf};
 ghost use Rattle.fence_trials.specs.declared.departing.Departing.TheVariants.{Drawn};
+ghost use Rattle.fence_trials.specs.declared.failing.Judgement.TheVariants.{Fails as Bad};
 ghost use Rattle.fence_trials.specs.declared.trying.Trial.TheVariants.{Well};
 
+use crate::attempt::Attempt;
 use crate::departing::{Departing, no_departures};
 use crate::executer::Executer;
 use crate::failing::{Failing, Judgement};
@@ -12,6 +14,7 @@ use crate::shortening::shortened;
 use departures::{Departure, Placing, Record};
 use fence_places::{Moves, is_sequential, moves_of};
 use pages::OutOfMemory;
+use plan_hunt::HuntObserver;
 use timed_machine::TimedMachine;
 use weak_executions::is_allowed;
 
@@ -56,129 +59,111 @@ pub enum Trial {
     Unconfirmed,
 }
 
-/// Makes the execution of a number, and where that fails looks for what it fails by.
+/// Makes the execution of a number, and where that fails looks for what it fails by. An observer learns of the rounds.
 ///
 /// # Errors
 ///
 /// `OutOfMemory` alone.
-pub fn try_number<E: Executer>(
+pub fn try_number<E: Executer, O: HuntObserver>(
     executer: &E,
     guest: &FenceGuest<'_>,
     ordinary: &Ordinary,
     number: u32,
+    observer: &O,
 ) -> Result<Trial, OutOfMemory>
     ensures { IfOk result (IsTrialOf (λ d. E.comes_to guest.now d number) ordinary.now number) }
 {
-    match ordinary.judgement_by(executer, guest, Departing::Drawn, number)? {
+    let attempt = Attempt {
+        guest,
+        ordinary,
+        number,
+        observer,
+    };
+    match attempt.judgement_by(executer, Departing::Drawn)? {
         Judgement::Well => Ok(Trial::Well),
         Judgement::Cut => Ok(Trial::Running),
         Judgement::Void => Ok(Trial::Unconfirmed),
-        Judgement::Fails(failing) => look_into(executer, guest, ordinary, number, failing),
+        Judgement::Fails(failing) => look_into(executer, &attempt, failing),
     }
 }
 
 /// Looks for what the execution of a number fails by.
-fn look_into<E: Executer>(
+fn look_into<E: Executer, O: HuntObserver>(
     executer: &E,
-    guest: &FenceGuest<'_>,
-    ordinary: &Ordinary,
-    number: u32,
+    attempt: &Attempt<'_, '_, O>,
     failing: Failing,
 ) -> Result<Trial, OutOfMemory>
-    requires { EndsBadly (E.comes_to guest.now Drawn number) ordinary.now }
-    ensures { IfOk result (IsTrialOf (λ d. E.comes_to guest.now d number) ordinary.now number) }
+    requires { IsJudged (E.comes_to attempt.now.guest.now Drawn attempt.now.number)
+        attempt.now.ordinary.now (Bad failing) }
+    ensures { IfOk result (IsTrialOf (λ d. E.comes_to attempt.now.guest.now d attempt.now.number)
+        attempt.now.ordinary.now attempt.now.number) }
 {
-    match ordinary.judgement_by(executer, guest, no_departures(), number)? {
+    let without = attempt.judgement_by(executer, no_departures())?;
+    match without {
         Judgement::Fails(_) => Ok(Trial::Ordinary),
-        without => look_further(guest, ordinary, number, failing, without),
+        // Nothing departs, so no store comes early.
+        Judgement::Void => Ok(Trial::Unconfirmed),
+        Judgement::Well => look_further(attempt, failing),
+        Judgement::Cut => match failing {
+            // What hangs isn't told from what would only take longer.
+            Failing::Stuck => Ok(Trial::Running),
+            _ => look_further(attempt, failing),
+        },
     }
 }
 
 /// The same where it doesn't fail without departures.
-fn look_further(
-    guest: &FenceGuest<'_>,
-    ordinary: &Ordinary,
-    number: u32,
+fn look_further<O: HuntObserver>(
+    attempt: &Attempt<'_, '_, O>,
     failing: Failing,
-    without: Judgement,
 ) -> Result<Trial, OutOfMemory>
-    ensures { IfOk result (IsLookedInto number) }
+    ensures { IfOk result (IsLookedInto attempt.now.number) }
 {
-    if failing.is_like(Failing::Stuck) {
-        if let Judgement::Cut = without {
-            // What hangs isn't told from what would only take longer.
-            return Ok(Trial::Running);
-        }
-        if !ordinary.ends_well {
-            return Ok(Trial::Unnamed);
-        }
+    if failing.is_like(Failing::Stuck) && !attempt.ordinary.ends_well {
+        return Ok(Trial::Unnamed);
     }
-    look_into_departures(guest, ordinary, number, failing)
-}
-
-/// Looks for those departures that the execution of a number fails by.
-fn look_into_departures(
-    guest: &FenceGuest<'_>,
-    ordinary: &Ordinary,
-    number: u32,
-    failing: Failing,
-) -> Result<Trial, OutOfMemory>
-    ensures { IfOk result (IsLookedInto number) }
-{
-    let drawn = drawn_departures(guest, ordinary, number)?;
-    let fewer = shortened(guest, ordinary, number, failing, &drawn)?;
-    match ordinary.failing(guest, number, Departing::Listed(&fewer))? {
-        Some(failing) => explain(guest, ordinary, number, failing, fewer),
+    let drawn = attempt.drawn_departures()?;
+    let fewer = shortened(attempt, failing, &drawn)?;
+    match attempt.failing(Departing::Listed(&fewer))? {
+        Some(failing) => explain(attempt, failing, fewer),
         // What seemed to run on for ever may end after all.
-        None => match ordinary.failing(guest, number, Departing::Listed(&drawn))? {
-            Some(failing) => explain(guest, ordinary, number, failing, drawn),
+        None => match attempt.failing(Departing::Listed(&drawn))? {
+            Some(failing) => explain(attempt, failing, drawn),
             None => Ok(Trial::Unconfirmed),
         },
     }
 }
 
-/// What comes of the execution of a number with just these departures, of which all are needed where it fails.
+/// What comes of the execution of a number with just these departures, of which all are needed where it fails. An observer learns of the
+/// rounds.
 ///
 /// # Errors
 ///
 /// `OutOfMemory` alone.
-pub fn try_departures<E: Executer>(
+#[tactic(auto, using(crate::proofs::Judged::fails_badly))]
+pub fn try_departures<E: Executer, O: HuntObserver>(
     executer: &E,
     guest: &FenceGuest<'_>,
     ordinary: &Ordinary,
     number: u32,
     departures: &[Departure],
+    observer: &O,
 ) -> Result<Trial, OutOfMemory>
     // Where it fails, it came to an ending that isn't well.
     ensures { IfOk result (λ t. t ≢ Well → FailsSo (E.comes_to guest.now) ordinary.now number) }
 {
-    let departing = Departing::Listed(departures);
-    match ordinary.judgement_by(executer, guest, departing, number)? {
+    let attempt = Attempt {
+        guest,
+        ordinary,
+        number,
+        observer,
+    };
+    match attempt.judgement_by(executer, Departing::Listed(departures))? {
         Judgement::Fails(failing) => {
             let departures = copied(guest.alloc, departures)?;
-            explain(guest, ordinary, number, failing, departures)
+            explain(&attempt, failing, departures)
         }
         Judgement::Cut | Judgement::Well | Judgement::Void => Ok(Trial::Well),
-    }
-}
-
-/// The departures that a number draws, as far as they take effect.
-fn drawn_departures(
-    guest: &FenceGuest<'_>,
-    ordinary: &Ordinary,
-    number: u32,
-) -> Result<Vec<Departure>, OutOfMemory> {
-    let machine = guest.execute(number, Departing::Drawn, true, ordinary.own_span())?;
-    let drawn = copied(guest.alloc, departures_of(&machine));
-    drop(machine);
-    drawn
-}
-
-/// What departs in the execution of a machine.
-fn departures_of(machine: &TimedMachine) -> &[Departure] {
-    match machine.record() {
-        Some(record) => record.departures(),
-        None => &[],
     }
 }
 
@@ -192,20 +177,22 @@ fn placing_of(guest: &FenceGuest<'_>, record: &Record) -> Result<Option<Placing>
     Ok(None)
 }
 
-/// What an execution fails by.
-fn explain(
-    guest: &FenceGuest<'_>,
-    ordinary: &Ordinary,
-    number: u32,
+/// What the execution of an attempt with just these departures fails by.
+fn explain<O: HuntObserver>(
+    attempt: &Attempt<'_, '_, O>,
     failing: Failing,
     departures: Vec<Departure>,
 ) -> Result<Trial, OutOfMemory>
-    ensures { IfOk result (IsLookedInto number) }
+    ensures { IfOk result (IsLookedInto attempt.now.number) }
 {
-    let span = span_shown(ordinary, failing);
-    let machine = guest.execute(number, Departing::Listed(&departures), true, span)?;
+    let span = match failing {
+        // The steps of one that hangs by another plan show nothing more.
+        Failing::Stuck => attempt.ordinary.own_span(),
+        _ => attempt.ordinary.whole_span(),
+    };
+    let machine = attempt.made(Departing::Listed(&departures), span)?;
     let found = Found {
-        number,
+        number: attempt.number,
         failing,
         departures,
         placing: Placing::AsDone,
@@ -214,19 +201,11 @@ fn explain(
             all: machine.steps(),
         },
         operations: machine.operations(),
-        moves: Moves::none(guest.alloc),
+        moves: Moves::none(attempt.guest.alloc),
     };
-    let trial = explain_record(guest, &machine, found);
+    let trial = explain_record(attempt.guest, &machine, found);
     drop(machine);
     trial
-}
-
-/// The steps of the execution that is shown where one fails so. Of one that hangs those by another plan show nothing more.
-fn span_shown(ordinary: &Ordinary, failing: Failing) -> Span {
-    match failing {
-        Failing::Stuck => ordinary.own_span(),
-        Failing::Stopped(_, _) | Failing::Output | Failing::Seen => ordinary.whole_span(),
-    }
 }
 
 /// What the execution of a machine fails by, of which the order and what moved aren't known yet.

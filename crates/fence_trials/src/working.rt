@@ -137,7 +137,7 @@ fn work<E: Executer, O: HuntObserver + TrialObserver>(
             break;
         };
         let number = task.first + index;
-        let Ok(trial) = try_number(executer, guest, ordinary, number) else {
+        let Ok(trial) = try_number(executer, guest, ordinary, number, task.observer) else {
             break;
         };
         note(task, next, &trial);
