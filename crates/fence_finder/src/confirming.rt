@@ -9,6 +9,7 @@ use fence_search::Weakness;
 use fence_table::{Failure, Missing, NamedGap, Shown, TriedFence};
 use fence_trials::{Departing, Found, Ordinary};
 use pages::OutOfMemory;
+use plan_hunt::HuntObserver;
 use timed_machine::TimedMachine;
 use weak_executions::{Verdict, check_by};
 use weak_hunter::seen_of;
@@ -21,12 +22,13 @@ pub(crate) struct Confirmed {
 }
 
 /// A fence that is missing at a gap, where the checker of executions allows the execution that shows it, and finds that it fails so.
-pub(crate) fn confirm(
+pub(crate) fn confirm<O: HuntObserver>(
     guest: &Guest<'_>,
     gap: NamedGap,
     runs: &Ordinary,
     fence: TriedFence,
     weakness: &Weakness,
+    observer: &O,
 ) -> Result<Option<Confirmed>, OutOfMemory>
     ensures shown { IfOk result (λ found. IfSome found (λ c. IsShown guest.now.opening.image.now
         guest.now.opening.input.now guest.now.opening.harts.now c.missing.failure)) }
@@ -35,7 +37,7 @@ pub(crate) fn confirm(
     ensures numbers { IfOk result (λ found.
         IfSome found (λ c. c.missing.numbers ≡ weakness.now.numbers)) }
 {
-    let machine = made_again(guest, &weakness.shown)?;
+    let machine = made_again(guest, &weakness.shown, observer)?;
     let confirmed = confirm_by(guest, gap, runs, fence, weakness, &machine);
     drop(machine);
     confirmed
@@ -68,14 +70,15 @@ fn confirm_by(
 }
 
 /// An execution that was found as a file, where it is to be kept and RVWMO allows it.
-pub(crate) fn kept_of(
+pub(crate) fn kept_of<O: HuntObserver>(
     guest: &Guest<'_>,
     shown: &Found,
+    observer: &O,
 ) -> Result<Option<ExecutionFile>, OutOfMemory> {
     if !guest.settings.keeps {
         return Ok(None);
     }
-    let machine = made_again(guest, shown)?;
+    let machine = made_again(guest, shown, observer)?;
     let kept = allowed_file(guest, shown, &machine);
     drop(machine);
     kept
@@ -98,11 +101,15 @@ fn allowed_file(
 }
 
 /// The machine of an execution that was found, with its record.
-fn made_again(guest: &Guest<'_>, shown: &Found) -> Result<TimedMachine, OutOfMemory> {
+fn made_again<O: HuntObserver>(
+    guest: &Guest<'_>,
+    shown: &Found,
+    observer: &O,
+) -> Result<TimedMachine, OutOfMemory> {
     let departing = Departing::Listed(&shown.departures);
     guest
         .maker
-        .execute(shown.number, departing, true, shown.span)
+        .execute(shown.number, departing, true, shown.span, observer)
 }
 
 /// How a machine's execution fails, where RVWMO allows it.

@@ -16,7 +16,7 @@ ghost use Rattle.weak_hunter.specs.declared.error.WeakHuntError.TheVariants.{Hun
 use crate::findings::Findings;
 use crate::guest::Guest;
 use crate::looking::Looking;
-use crate::observing::{FenceObserver, ObservedExecuter};
+use crate::observing::FenceObserver;
 use crate::settings::FenceSettings;
 use execution_scripts::ExecutionFile;
 use fence_search::{Search, search_fences};
@@ -45,9 +45,9 @@ pub struct FoundFences {
 
 /// What finds missing fences: who makes the executions, and who looks on.
 #[derive(Clone, Copy)]
-pub struct FenceFinder<'a, E, O> {
+pub struct FenceFinder<'a, 'b, E, O> {
     pub executer: &'a E,
-    pub observer: &'a O,
+    pub observer: &'b O,
 }
 
 /// What a search found, and what is told of it.
@@ -57,7 +57,7 @@ struct Searched {
     findings: Findings,
 }
 
-impl<E: Executer + Sync, O: FenceObserver + Sync> FenceFinder<'_, E, O> {
+impl<E: Executer + Sync, O: FenceObserver + Sync> FenceFinder<'_, '_, E, O> {
     /// Makes a guest's executions of the numbers that the settings name, until the search is over, looks for what those fail by that fail, and
     /// writes at which gaps fences are missing. Each execution that is shown was put to the checker of executions, and an ordinary run beside
     /// them. The observer looks on.
@@ -141,13 +141,13 @@ impl<E: Executer + Sync, O: FenceObserver + Sync> FenceFinder<'_, E, O> {
     }
 
     /// What a search among the executions that begin so finds.
-    fn findings_of<R: Threads + Wait + Sync>(
+    fn findings_of<'x, R: Threads + Wait + Sync>(
         &self,
         rt: &R,
         alloc: Global,
-        file: &[u8],
-        opening: Opening<'_>,
-        settings: &FenceSettings,
+        file: &'x [u8],
+        opening: Opening<'x>,
+        settings: &'x FenceSettings,
     ) -> Result<Searched, WeakHuntError>
         requires hunt { IsHunt settings.now.hunt }
         requires harts { length opening.harts.now ≡ settings.now.hunt.harts }
@@ -173,19 +173,19 @@ impl<E: Executer + Sync, O: FenceObserver + Sync> FenceFinder<'_, E, O> {
             maker: FenceGuest::new(alloc, opening, seed, reach, ranges, fences),
             extent: hunt.extent(),
         };
+        let (executer, extent, workers) = (self.executer, guest.extent, hunt.workers);
+        let maker = &guest.maker;
         let looking = Looking::new(&guest, self.observer);
-        let executer = ObservedExecuter {
-            executer: self.executer,
-            observer: self.observer,
-        };
-        let workers = hunt.workers;
-        let search = search_fences(rt, &executer, &guest.maker, guest.extent, workers, &looking)?;
+        let search = search_fences(rt, executer, maker, extent, workers, &looking)?;
         looking.tell_last(&search.weaknesses);
-        drop(looking);
         if search.counted.unconfirmed.plans != 0 {
             return Err(WeakHuntError::Unconfirmed(search.counted.unconfirmed.first));
         }
-        let findings = Findings::of(rt, &executer, &guest, workers, &search)?;
+        let finder = FenceFinder {
+            executer,
+            observer: &looking,
+        };
+        let findings = Findings::of(rt, &finder, &guest, workers, &search)?;
         Ok(Searched { search, findings })
     }
 }

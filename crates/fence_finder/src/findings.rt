@@ -8,6 +8,7 @@ ghost use Rattle.hunter.specs.declared.error.HuntError.TheVariants as hunting;
 ghost use Rattle.weak_hunter.specs.declared.error.WeakHuntError.TheVariants.{Hunt, Unconfirmed};
 
 use crate::confirming::{Confirmed, confirm};
+use crate::finding::FenceFinder;
 use crate::guest::Guest;
 use crate::usual::check_usual;
 use execution_scripts::ExecutionFile;
@@ -16,6 +17,7 @@ use fence_search::{Search, Weakness};
 use fence_table::{Missing, Tally, TriedFence};
 use fence_trials::Executer;
 use pages::OutOfMemory;
+use plan_hunt::HuntObserver;
 use std::alloc::Global;
 use std::thread::Threads;
 use weak_hunter::WeakHuntError;
@@ -54,9 +56,9 @@ impl Findings {
     /// # Errors
     ///
     /// `Unconfirmed` with the number of the first one that the checker doesn't allow, or that it finds to end otherwise; `OutOfMemory`.
-    pub(crate) fn of<E: Executer + Sync, R: Threads + Sync>(
+    pub(crate) fn of<E: Executer + Sync, O: HuntObserver + Sync, R: Threads + Sync>(
         rt: &R,
-        executer: &E,
+        finder: &FenceFinder<'_, '_, E, O>,
         guest: &Guest<'_>,
         workers: u32,
         search: &Search,
@@ -80,16 +82,16 @@ impl Findings {
         if search.weaknesses.is_empty() {
             return Ok(findings);
         }
-        check_usual(guest, &search.runs)?;
-        findings.add_all(rt, executer, guest, workers, search)?;
+        check_usual(guest, &search.runs, finder.observer)?;
+        findings.add_all(rt, finder, guest, workers, search)?;
         Ok(findings)
     }
 
     /// Adds missing fences, where none was added before.
-    fn add_all<E: Executer + Sync, R: Threads + Sync>(
+    fn add_all<E: Executer + Sync, O: HuntObserver + Sync, R: Threads + Sync>(
         &mut self,
         rt: &R,
-        executer: &E,
+        finder: &FenceFinder<'_, '_, E, O>,
         guest: &Guest<'_>,
         workers: u32,
         search: &Search,
@@ -109,16 +111,16 @@ impl Findings {
             ((n : ℕ) × (e ≡ Unconfirmed n))) }
     {
         for weakness in &search.weaknesses {
-            self.add(rt, executer, guest, workers, search, weakness)?;
+            self.add(rt, finder, guest, workers, search, weakness)?;
         }
         Ok(())
     }
 
     /// Adds a missing fence, where one at its gap mends the numbers, and the checker of executions allows the execution that shows it.
-    fn add<E: Executer + Sync, R: Threads + Sync>(
+    fn add<E: Executer + Sync, O: HuntObserver + Sync, R: Threads + Sync>(
         &mut self,
         rt: &R,
-        executer: &E,
+        finder: &FenceFinder<'_, '_, E, O>,
         guest: &Guest<'_>,
         workers: u32,
         search: &Search,
@@ -153,7 +155,7 @@ impl Findings {
             count: search.done,
             workers,
         };
-        let Some(kind) = place.weakest_fence(rt, executer)? else {
+        let Some(kind) = place.weakest_fence(rt, finder.executer, finder.observer)? else {
             self.unnamed = self.unnamed.joined(weakness.numbers);
             return Ok(());
         };
@@ -162,7 +164,7 @@ impl Findings {
             pc: weakness.pc(),
             executions: search.done,
         };
-        match confirm(guest, gap, &search.runs, fence, weakness)? {
+        match confirm(guest, gap, &search.runs, fence, weakness, finder.observer)? {
             Some(confirmed) => {
                 self.put(confirmed)?;
                 Ok(())

@@ -12,16 +12,16 @@ use std::sync::atomic::{AtomicU32, Ordering};
 
 /// Looks at a search for whoever looks at the finder, and says with what it is over.
 #[derive(Drop)]
-pub(crate) struct Looking<'a, 'b, O> {
+pub(crate) struct Looking<'a, 'b, 'c, O> {
     guest: &'a Guest<'b>,
-    observer: &'a O,
+    observer: &'c O,
     /// Before which number the executions that fail were looked at.
     told: AtomicU32,
 }
 
-impl<'a, 'b, O: FenceObserver> Looking<'a, 'b, O> {
+impl<'a, 'b, 'c, O: FenceObserver> Looking<'a, 'b, 'c, O> {
     /// Nothing was told yet.
-    pub fn new(guest: &'a Guest<'b>, observer: &'a O) -> Self
+    pub fn new(guest: &'a Guest<'b>, observer: &'c O) -> Self
         ensures { result.guest.now ≡ guest.now }
     {
         Looking {
@@ -77,7 +77,7 @@ impl<'a, 'b, O: FenceObserver> Looking<'a, 'b, O> {
     fn tell(&self, found: &Found, gap: &Gap) {
         if let Ok(false) = self.is_accepted(found) {
             if let Ok(named) = self.guest.gap_between(gap.earlier, gap.later) {
-                match kept_of(self.guest, found) {
+                match kept_of(self.guest, found, self) {
                     Ok(Some(kept)) => self.observer.found(&named, found.number, Some(&kept)),
                     _ => self.observer.found(&named, found.number, None),
                 }
@@ -133,7 +133,7 @@ fn is_own_gap(founds: &[Found], gap: &Gap, number: u32) -> bool {
     false
 }
 
-impl<O: FenceObserver> TrialObserver for Looking<'_, '_, O> {
+impl<O: FenceObserver> TrialObserver for Looking<'_, '_, '_, O> {
     ghost use Rattle.fence_finder.specs.Finds.{IsEnough};
 
     ghost answers = { λ o t b. IsEnough o.guest.now.settings.now.accepted t b };
@@ -154,7 +154,7 @@ impl<O: FenceObserver> TrialObserver for Looking<'_, '_, O> {
     }
 }
 
-impl<O: FenceObserver> HuntObserver for Looking<'_, '_, O> {
+impl<O: FenceObserver> HuntObserver for Looking<'_, '_, '_, O> {
     fn before_block(&self, _done: u32, _rows: &[Row]) -> u32 {
         u32::MAX
     }
@@ -167,5 +167,7 @@ impl<O: FenceObserver> HuntObserver for Looking<'_, '_, O> {
         self.observer.after_number();
     }
 
-    fn after_rounds(&self, _rounds: u32) {}
+    fn after_rounds(&self, rounds: u32) {
+        self.observer.after_rounds(rounds);
+    }
 }

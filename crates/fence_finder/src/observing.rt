@@ -1,7 +1,5 @@
 use execution_scripts::ExecutionFile;
 use fence_table::NamedGap;
-use fence_trials::{Came, Departing, Executer, FenceGuest, Span};
-use pages::OutOfMemory;
 
 /// Whoever looks at a search for missing fences, also from its workers. What it answers makes no difference to what is found of the numbers
 /// that are done.
@@ -16,8 +14,8 @@ pub trait FenceObserver {
     /// Learns that a worker has tried one more number.
     fn after_number(&self);
 
-    /// Learns that one more execution was made, be it as if a fence stood somewhere.
-    fn after_execution(&self);
+    /// Learns that an execution, be it as if a fence stood somewhere, has done so many rounds more, while it is under way.
+    fn after_rounds(&self, rounds: u32);
 
     /// Learns of a gap at which a fence would forbid the execution of a number, which fails. None is told twice, and none that is accepted.
     /// Where executions are kept it has that one too, if RVWMO allows it.
@@ -39,30 +37,7 @@ impl FenceObserver for UnobservedSearch {
 
     fn after_number(&self) {}
 
-    fn after_execution(&self) {}
+    fn after_rounds(&self, _rounds: u32) {}
 
     fn found(&self, _gap: &NamedGap, _number: u32, _execution: Option<&ExecutionFile>) {}
-}
-
-/// Makes executions as another one does, and tells who looks on of each.
-#[derive(Clone, Copy)]
-pub(crate) struct ObservedExecuter<'a, E, O> {
-    pub executer: &'a E,
-    pub observer: &'a O,
-}
-
-impl<E: Executer, O: FenceObserver> Executer for ObservedExecuter<'_, E, O> {
-    ghost comes_to = { E.comes_to };
-
-    fn execute(
-        &self,
-        guest: &FenceGuest<'_>,
-        departing: Departing<'_>,
-        number: u32,
-        span: Span,
-    ) -> Result<Option<Came>, OutOfMemory> {
-        let found = self.executer.execute(guest, departing, number, span)?;
-        self.observer.after_execution();
-        Ok(found)
-    }
 }

@@ -11,6 +11,7 @@ use crate::guest::Guest;
 use departures::{Placing, Record};
 use fence_trials::{Departing, Ordinary};
 use pages::OutOfMemory;
+use plan_hunt::HuntObserver;
 use weak_executions::{Verdict, check_by};
 use weak_hunter::WeakHuntError;
 
@@ -22,20 +23,28 @@ const USUAL: u32 = 0;
 /// # Errors
 ///
 /// `Unconfirmed` where the checker doesn't allow it, or finds that it ends otherwise; `OutOfMemory`.
-pub(crate) fn check_usual(guest: &Guest<'_>, runs: &Ordinary) -> Result<(), WeakHuntError>
+pub(crate) fn check_usual<O: HuntObserver>(
+    guest: &Guest<'_>,
+    runs: &Ordinary,
+    observer: &O,
+) -> Result<(), WeakHuntError>
     ensures usual { OnOk result (IsUsual guest.now.opening.image.now guest.now.opening.input.now
         guest.now.opening.harts.now runs.now) }
     ensures errors { IfErr result (λ e. (e ≡ Hunt (hunting.Run refusals.OutOfMemory)) ⊎
         ((n : ℕ) × (e ≡ Unconfirmed n))) }
 {
-    if runs.ends_well && !is_usual_allowed(guest, runs)? {
+    if runs.ends_well && !is_usual_allowed(guest, runs, observer)? {
         return Err(WeakHuntError::Unconfirmed(USUAL));
     }
     Ok(())
 }
 
 /// Whether the checker allows an ordinary run, and finds that it ends as all of them do.
-fn is_usual_allowed(guest: &Guest<'_>, runs: &Ordinary) -> Result<bool, OutOfMemory>
+fn is_usual_allowed<O: HuntObserver>(
+    guest: &Guest<'_>,
+    runs: &Ordinary,
+    observer: &O,
+) -> Result<bool, OutOfMemory>
     ensures { IfOk result (λ yes.
         OnTrue yes (IsUsual guest.now.opening.image.now guest.now.opening.input.now
         guest.now.opening.harts.now runs.now)) }
@@ -43,7 +52,7 @@ fn is_usual_allowed(guest: &Guest<'_>, runs: &Ordinary) -> Result<bool, OutOfMem
     let departing = Departing::Listed(&[]);
     let machine = guest
         .maker
-        .execute(USUAL, departing, true, runs.own_span())?;
+        .execute(USUAL, departing, true, runs.own_span(), observer)?;
     let allowed = match machine.record() {
         Some(record) => is_record_usual(guest, runs, record),
         None => Ok(false),

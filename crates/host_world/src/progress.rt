@@ -39,7 +39,7 @@ pub struct Progress<'a> {
     block_ended: AtomicU64,
     /// How many plans were run, or tried in the search for a smaller one.
     plans: AtomicU64,
-    /// How many rounds the runs of a hunt have done.
+    /// How many rounds the runs of a hunt, or the executions of a search, have done.
     rounds: AtomicU64,
     /// How many endings a hunt had found before its last block, and how many of them were bad.
     endings: AtomicU64,
@@ -124,8 +124,9 @@ impl<'a> Progress<'a> {
         if let Some(seconds) = self.next_second() {
             let (done, all) = (self.plans.load(Ordering::SeqCst), self.all);
             let failing = self.endings.load(Ordering::SeqCst);
+            let rounds = self.rounds.load(Ordering::SeqCst);
             let _unwritten = eprint!(self.rt;
-                "\rnumber {done} of {all}, {failing} fail for want of a fence, {seconds} s\x1b[K"
+                "\rnumber {done} of {all}, {failing} fail for want of a fence, {rounds} rounds, {seconds} s\x1b[K"
             );
         }
     }
@@ -236,8 +237,11 @@ impl FenceObserver for Progress<'_> {
         }
     }
 
-    fn after_execution(&self) {
-        self.tell_fences();
+    fn after_rounds(&self, rounds: u32) {
+        if self.clock.is_some() {
+            let _before = self.rounds.fetch_add(u64::from(rounds), Ordering::SeqCst);
+            self.tell_fences();
+        }
     }
 
     fn found(&self, _gap: &NamedGap, _number: u32, _execution: Option<&ExecutionFile>) {}

@@ -89,8 +89,8 @@ impl<P: FenceObserver + ProgressLine, M: Messages, F: Files + Copy> FenceObserve
         self.progress.after_number();
     }
 
-    fn after_execution(&self) {
-        self.progress.after_execution();
+    fn after_rounds(&self, rounds: u32) {
+        self.progress.after_rounds(rounds);
     }
 
     fn found(&self, gap: &NamedGap, number: u32, execution: Option<&ExecutionFile>) {
