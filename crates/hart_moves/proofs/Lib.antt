@@ -2,6 +2,7 @@ pub mod Again
 pub mod Allowed
 pub mod Atomicity
 pub mod Computes
+pub mod Early
 pub mod Found
 pub mod Inverting
 pub mod Lower

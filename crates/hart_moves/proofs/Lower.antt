@@ -1,4 +1,4 @@
--- Lower states, behind moves that do the same.
+-- States that are ahead, behind moves that do the same.
 use Rattle.std.proofs.Common.{◌≡◌, ℕ, List, [], ◌∷◌, ◌++◌, length, Contains, Option, Some, refl, sym, ap, ◌∙◌, subst, arith}
 use Rattle.std.proofs.lemmas.List.{get_or_push, length_push}
 use Rattle.memory_order.specs.Registers.{registers_of}
@@ -12,6 +12,8 @@ use Rattle.hart_states.specs.declared.choice.Choice.{Choice}
 use Rattle.hart_states.specs.Choices.{move_of}
 use Rattle.hart_moves.specs.Choosing.{IsFound}
 use Rattle.hart_states.specs.Following.{Follows, place_done}
+use Rattle.hart_moves.specs.Moves.{FollowsAhead}
+use Rattle.private_bytes.specs.Ahead.{LowerStatesAreAhead}
 
 -- what a move leaves that does the same no later is what this move leaves, or lower
 pub follows_earlier : EarlierMovesAreLower → (h : ℕ) (m : List Stored) (a : RunState) (v w : Move) (s : Successor) → IsSized a → AreRegisters (registers_of v.instruction) →
@@ -26,11 +28,12 @@ contains_last xs y ys e =
     subst (λ (l : List Successor). Contains l y) (sym e) (length xs, omega (arith, length_push xs y), get_or_push xs y y (length xs) refl)
 
 -- what was found for a move that is as this one
-pub found_follows : EarlierMovesAreLower → (h : ℕ) (m : List Stored) (a : RunState) (o : Option Choice) (c : Choice) (s : Successor) (v : Move) → IsSized a →
-    AreRegisters (registers_of c.instruction) → o ≡ Some c → Follows h m a (move_of c) s → IsFound m a o v → Follows h m a v s
-found_follows law h m a o c s v size fit is follows found =
-    follows_earlier law h m a (move_of c) v s size fit follows (subst (λ (d : Choice). IsNoLater m a (move_of d) v) (sym one) found.earlier)
-    (ap (λ (d : Choice). place_done (move_of d)) one ∙ found.done)
+pub found_follows : EarlierMovesAreLower → LowerStatesAreAhead → (h : ℕ) (m : List Stored) (a : RunState) (o : Option Choice) (c : Choice) (s : Successor) (v : Move) → IsSized a →
+    AreRegisters (registers_of c.instruction) → o ≡ Some c → Follows h m a (move_of c) s → IsFound m a o v → FollowsAhead h m a v s
+found_follows law ahead h m a o c s v size fit is follows found =
+    let f = follows_earlier law h m a (move_of c) v s size fit follows (subst (λ (d : Choice). IsNoLater m a (move_of d) v) (sym one) found.earlier)
+    (ap (λ (d : Choice). place_done (move_of d)) one ∙ found.done) in
+    record { state = ahead _ _ f.state; done = f.done }
   where
     one : c ≡ found.choice
     one = let e = found.is in cc

@@ -3,6 +3,7 @@ use Rattle.std.specs.Prelude.{◌≡◌, ◌≢◌, ℕ, ◌+◌, ◌≤◌, ◌
 use Rattle.pages.specs.Memory.{Memory, width_bytes}
 use Rattle.round_schedule.specs.declared.access.Access.{Access}
 use Rattle.round_schedule.specs.declared.access.Access.TheVariants.{Fence, StoreConditional as ScOf}
+use Rattle.round_schedule.specs.Accesses.{loads}
 use Rattle.round_schedule.specs.Accesses.{stores as writing}
 use Rattle.rv64_decode.specs.declared.atomic.Atomic.{Atomic as AmoWord}
 use Rattle.rv64_decode.specs.declared.atomic.Atomic.TheVariants.{Operation as Amo}
@@ -22,6 +23,7 @@ use Rattle.memory_order.specs.Registers.{registers_of}
 use Rattle.run_bounds.specs.declared.operation.Kind.{Kind}
 use Rattle.run_bounds.specs.declared.operation.Kind.TheVariants.{Load, Store, LoadReserved, StoreConditional, Atomic}
 use Rattle.run_bounds.specs.declared.operation.Operation.{Operation}
+use Rattle.run_bounds.specs.declared.touched.TouchedByte.{TouchedByte}
 use Rattle.run_bounds.specs.Operations.{access_of}
 use Rattle.all_endings.specs.Earlier.{IsNoLater}
 use Rattle.all_endings.specs.HartRuns.{Gets, IsAnswer, IsReadable, IsUnbroken, IsWritable, data_of}
@@ -187,6 +189,14 @@ pub record IsAgain (latest found : Option Choice) : Type 0 where
   pub time : earlier.time ≤ choice.time
   pub result : earlier.result ≡ choice.result
   pub sources : earlier.sources ≡ choice.sources
+
+-- what is found is a load, and reads no store behind what its hart has seen (rule 2)
+pub record ReadsSeen (c : Coming) (found : Option Choice) : Type 0 where
+  pub choice : Choice
+  pub is : found ≡ Some choice
+  pub loads : loads choice.access ≡ true
+  pub stores : writing choice.access ≡ false
+  pub seen : (k : ℕ) (d : TouchedByte) → k < width_bytes c.operation.width → slice_index choice.sources k ≤ (slice_index_or c.known k d).seen
 
 -- what is found can stand for a move
 pub record IsFound (m : List Stored) (a : RunState) (found : Option Choice) (v : Move) : Type 0 where

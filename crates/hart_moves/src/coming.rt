@@ -16,7 +16,7 @@ use rv64_decode::Instr;
 
 /// A memory operation that a run comes to.
 #[derive(Clone, Copy)]
-pub(crate) struct Coming {
+pub struct Coming {
     /// The instruction.
     pub instruction: Instr,
     /// Its registers.
@@ -89,7 +89,7 @@ fn all_known(state: &RunState, i: &Instr, operation: &Operation) -> Coming
 }
 
 /// What is known of an operation whose address is known, and which memory lets be done.
-pub(crate) fn coming_of(
+pub fn coming_of(
     pages: &Pages,
     state: &RunState,
     i: &Instr,

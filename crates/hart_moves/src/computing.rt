@@ -79,7 +79,7 @@ pub(crate) fn knows(registers: &[Option<u64>; 32], used: &Registers) -> bool
 }
 
 /// The hart of a state, with 0 for each unknown register.
-pub(crate) fn hart_of(state: &RunState) -> Hart
+pub fn hart_of(state: &RunState) -> Hart
     ensures registers { result.x ≡ filled state.now.registers }
     ensures pc { result.pc ≡ state.now.pc }
     ensures runs { result.stop ≡ None }

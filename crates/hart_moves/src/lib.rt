@@ -15,7 +15,11 @@ mod standing;
 mod stopping;
 mod storing;
 
+pub use coming::{Coming, coming_of};
+pub use computing::hart_of;
 pub use ending::{is_open_call, is_settled, knows_registers};
-pub use moving::{Reached, moves};
+pub use moving::{Reached, instruction_at, operation_moves, other_moves};
 pub use offering::offers;
+pub use operating::{add_successor, are_registers};
+pub use standing::may_stand;
 pub use stopping::stop_of;

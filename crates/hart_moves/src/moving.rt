@@ -12,16 +12,16 @@ ghost use Rattle.all_endings.specs.RunStates.{Move};
 ghost use Rattle.all_endings.specs.StoreLists.{Stored};
 ghost use Rattle.hart_states.specs.States.{listed, state_of};
 ghost use Rattle.hart_moves.specs.Choosing.{IsFound};
-ghost use Rattle.hart_moves.specs.Moves.{AreMoves, AreMovesBy};
+ghost use Rattle.hart_moves.specs.Moves.{AreMovesBy};
 
 use crate::calling::{call, call_number, has_any_answer};
 use crate::coming::coming_of;
-use crate::computing::{compute, fence, hart_of};
-use crate::operating::{add, operate};
+use crate::computing::{compute, fence};
+use crate::operating::{add_successor, operate};
 use all_endings::destinations_are_written;
 use hart_states::{Choice, ListedStore, RunState, Successor};
 use pages::{OutOfMemory, Pages};
-use run_bounds::{Operation, operation_of};
+use run_bounds::Operation;
 use rv64_decode::{Instr, decode};
 use std::alloc::Global;
 
@@ -34,9 +34,9 @@ pub enum Reached {
     AnyAnswer,
 }
 
-/// The instruction at an address.
+/// The instruction at an address, where there is one.
 #[tactic(auto, using(crate::proofs::Allowed::fetched_none, crate::proofs::Allowed::fetched_some))]
-pub(crate) fn instruction_at(pages: &Pages, pc: u64) -> Option<Instr>
+pub fn instruction_at(pages: &Pages, pc: u64) -> Option<Instr>
     ensures { result ≡ decoded pages.now.memory pc }
 {
     match pages.fetch(pc) {
@@ -45,8 +45,12 @@ pub(crate) fn instruction_at(pages: &Pages, pc: u64) -> Option<Instr>
     }
 }
 
-/// The moves of a memory operation.
-fn operation_moves(
+/// The states behind a memory operation that comes next: for each of its moves one that is ahead.
+///
+/// # Errors
+///
+/// `OutOfMemory` alone.
+pub fn operation_moves(
     alloc: Global,
     pages: &Pages,
     hart: u8,
@@ -114,12 +118,16 @@ fn call_moves(
         return Ok(Reached::AnyAnswer);
     }
     let mut found = Vec::new(alloc);
-    add(&mut found, list, hart, state, call(state))?;
+    add_successor(&mut found, list, hart, state, call(state))?;
     Ok(Reached::Whole(found))
 }
 
-/// The moves of an instruction that is no memory operation.
-fn other_moves(
+/// The states behind an instruction that comes next and is no memory operation: for each of its moves one that is ahead.
+///
+/// # Errors
+///
+/// `OutOfMemory` alone.
+pub fn other_moves(
     alloc: Global,
     pages: &Pages,
     hart: u8,
@@ -137,30 +145,6 @@ fn other_moves(
     }
     let mut found = Vec::new(alloc);
     let choice = other_choice(alloc, pages, state, i)?;
-    add(&mut found, list, hart, state, choice)?;
+    add_successor(&mut found, list, hart, state, choice)?;
     Ok(Reached::Whole(found))
-}
-
-/// The states behind the next instruction of a run of a hart against a list: for each move one that is no higher.
-///
-/// # Errors
-///
-/// `OutOfMemory` alone.
-pub fn moves(
-    alloc: Global,
-    pages: &Pages,
-    hart: u8,
-    list: &[ListedStore],
-    state: &RunState,
-) -> Result<Reached, OutOfMemory>
-    ensures { IfOk result (λ r.
-        AreMoves pages.now.memory hart (listed list.now) (state_of state.now) r) }
-{
-    let Some(i) = instruction_at(pages, state.pc) else {
-        return Ok(Reached::Whole(Vec::new(alloc)));
-    };
-    match operation_of(&hart_of(state), &i) {
-        Some(operation) => operation_moves(alloc, pages, hart, list, state, &i, &operation),
-        None => other_moves(alloc, pages, hart, list, state, &i),
-    }
 }

@@ -14,18 +14,19 @@ ghost use Rattle.hart_moves.specs.Moves.{HasFollower};
 
 use crate::coming::Coming;
 use crate::loading::load_at;
-use crate::repeating::is_again;
+use crate::repeating::{is_again, reads_seen};
 use crate::standing::may_stand;
 use crate::storing::{failing, is_placed, storing_at};
 use all_endings::earlier_moves_are_lower;
 use hart_states::{Choice, ListedStore, RunState, Successor, follow, is_sized};
 use memory_order::{Registers, used_registers};
 use pages::{OutOfMemory, Pages};
+use private_bytes::{early_loads_are_ahead, lower_states_are_ahead};
 use run_bounds::Kind;
 use std::alloc::Global;
 
-/// Registers are registers.
-pub(crate) fn are_registers(x: &Registers)
+/// The registers of an instruction are registers.
+pub fn are_registers(x: &Registers)
     ensures { AreRegisters x.now }
 {
     let _address = x.address.index();
@@ -35,8 +36,12 @@ pub(crate) fn are_registers(x: &Registers)
     let _destination = x.destination.index();
 }
 
-/// Adds what a choice leaves.
-pub(crate) fn add(
+/// Adds what a choice leaves, where there is one.
+///
+/// # Errors
+///
+/// `OutOfMemory` alone.
+pub fn add_successor(
     found: &mut Vec<Successor>,
     list: &[ListedStore],
     hart: u8,
@@ -53,6 +58,7 @@ pub(crate) fn add(
     match choice {
         Some(choice) => {
             earlier_moves_are_lower();
+            lower_states_are_ahead();
             are_registers(&used_registers(&choice.instruction));
             is_sized(state);
             let left = follow(list, hart, state, &choice)?;
@@ -147,15 +153,25 @@ pub(crate) fn operate(
 {
     let _pages = pages.count();
     let mut found = Vec::new(alloc);
-    add(&mut found, list, hart, state, failing(state, coming))?;
+    add_successor(&mut found, list, hart, state, failing(state, coming))?;
+    early_loads_are_ahead();
+    is_sized(state);
+    are_registers(&used_registers(&coming.instruction));
     let mut latest: Option<Choice> = None;
-    for time in 0..list.len() + 2 {
+    let mut is_enough = false;
+    for time in 0..list.len() + 1 {
         let choice = placed_at(list, pages, hart, state, coming, time);
         if is_again(&latest, &choice) {
             continue;
         }
-        add(&mut found, list, hart, state, choice)?;
+        add_successor(&mut found, list, hart, state, choice)?;
+        is_enough = is_enough || reads_seen(coming, &choice);
         latest = choice;
     }
+    if is_enough {
+        return Ok(found);
+    }
+    let later = placed_at(list, pages, hart, state, coming, list.len() + 1);
+    add_successor(&mut found, list, hart, state, later)?;
     Ok(found)
 }

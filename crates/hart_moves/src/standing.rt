@@ -27,7 +27,7 @@ fn stands_behind(known: &[TouchedByte; 8], count: usize, time: usize) -> bool
 }
 
 /// Whether an operation may stand at a time, by all rules but 2, 3, 8 and 12.
-pub(crate) fn may_stand(state: &RunState, coming: &Coming, access: &Access, time: usize) -> bool
+pub fn may_stand(state: &RunState, coming: &Coming, access: &Access, time: usize) -> bool
     requires coming { IsComing (state_of state.now) coming.now }
     requires access { access.now ≡ access_of coming.now.operation }
     ensures { (v : Move) → v.instruction ≡ coming.now.instruction →

@@ -2,7 +2,7 @@ mod ApartMoves
 mod Covering
 mod KeptLists
 mod LaterLoads
-mod Mirroring
+pub mod Mirroring
 mod OwnStores
 mod PrivateTimes
 mod SharedLists

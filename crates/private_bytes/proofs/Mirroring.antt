@@ -201,6 +201,9 @@ own_ahead f private _ _ q (ahead-both o p place byte atomic needs) r = by_other 
     by_other _ (mirrors-both _ u place2 atomic2 byte2 needs2) =
         mirrors-both o u (λ e. place ∙ place2 e) (λ e. atomic ∙ atomic2 e) (λ n is. byte n (byte2 n is)) (omega (arith, needs, needs2))
 
+at_most : (u v w : ℕ) → u ≤ v → v ≤ w → u ≤ w
+at_most u v w l m = omega (arith, l, m)
+
 -- what is ahead mirrors as well
 pub mirrors_ahead : (owns : ℕ → ℕ → Bool) (h : ℕ) (f : ℕ → ℕ) (a b c : RunState) → IsAhead a b → Mirrors owns h f b c → Mirrors owns h f a c
 mirrors_ahead owns h f a b c l m = record {
@@ -233,9 +236,45 @@ mirrors_ahead owns h f a b c l m = record {
   sources = λ x e. at_most _ _ _ (m.sources x e) (l.sources x (ap (λ (s : Option Span). is_held s x) m.held ∙ e));
   output = outputs_on c.output b.output a.output m.output l.output;
 }
+
+own_on : (o p q : Option OwnByte) → OwnAhead o p → OwnAhead p q → OwnAhead o q
+own_on _ _ q ahead-none r = r
+own_on _ _ q (ahead-both o p place byte atomic needs) r = by_other q r
   where
-    at_most : (u v w : ℕ) → u ≤ v → v ≤ w → u ≤ w
-    at_most u v w l m = omega (arith, l, m)
+    by_other : (q : Option OwnByte) → OwnAhead (Some p) q → OwnAhead (Some o) q
+    by_other _ (ahead-both _ u place2 byte2 atomic2 needs2) = ahead-both o u (place ∙ place2) (λ n e. byte n (byte2 n e)) (atomic ∙ atomic2) (omega (arith, needs, needs2))
+
+-- what is ahead of a state is ahead of all that the state is ahead of
+pub ahead_on : (a b c : RunState) → IsAhead a b → IsAhead b c → IsAhead a c
+ahead_on a b c l m = record {
+  pc = l.pc ∙ m.pc;
+  size = l.size ∙ m.size;
+  registers = λ r n e. l.registers r n (m.registers r n e);
+  kinds = record {
+    loads = at_most _ _ _ l.kinds.loads m.kinds.loads;
+    stores = at_most _ _ _ l.kinds.stores m.kinds.stores;
+    acquires = at_most _ _ _ l.kinds.acquires m.kinds.acquires;
+    annotated = at_most _ _ _ l.kinds.annotated m.kinds.annotated;
+    load_load = at_most _ _ _ l.kinds.load_load m.kinds.load_load;
+    load_store = at_most _ _ _ l.kinds.load_store m.kinds.load_store;
+    store_load = at_most _ _ _ l.kinds.store_load m.kinds.store_load;
+    store_store = at_most _ _ _ l.kinds.store_store m.kinds.store_store;
+  };
+  carried = record {
+    small = l.carried.small;
+    size = m.carried.size;
+    registers = λ r s. at_most _ _ _ (l.carried.registers r s) (m.carried.registers r s);
+    steered = at_most _ _ _ l.carried.steered m.carried.steered;
+    addressed = at_most _ _ _ l.carried.addressed m.carried.addressed;
+  };
+  touched = λ x. at_most _ _ _ (l.touched x) (m.touched x);
+  seen = λ x. at_most _ _ _ (l.seen x) (m.seen x);
+  own = λ x. own_on (a.own x) (b.own x) (c.own x) (l.own x) (m.own x);
+  held = l.held ∙ m.held;
+  reserved = at_most _ _ _ l.reserved m.reserved;
+  sources = λ x s. at_most _ _ _ (m.sources x s) (l.sources x (ap (λ (u : Option Span). is_held u x) m.held ∙ s));
+  output = outputs_on c.output b.output a.output m.output l.output;
+}
 
 -- ---- lower states are ahead
 

@@ -3,6 +3,7 @@ use Rattle.round_schedule.specs.Accesses.{stores as writing}
 use Rattle.all_endings.specs.Endings.{opening_bytes}
 use Rattle.all_endings.specs.HartRuns.{IsPlaced, Stands}
 use Rattle.all_endings.specs.RunStates.{Move}
+use Rattle.all_endings.specs.StoreLists.{later}
 use Rattle.hart_states.specs.States.{listed, state_of}
 use Rattle.hart_moves.specs.Choosing.{DoesSo, FailsSo, IsChoiceOf, IsFound}
 use Rattle.hart_moves.specs.Moves.{HasFollower}
@@ -16,5 +17,8 @@ invariant-loop-time l = record {
   fails : (v : Move) → v.instruction ≡ l.coming.instruction → FailsSo (state_of l.state) l.coming.operation v →
       HasFollower l.hart (listed l.list) (state_of l.state) v l.found.items;
   is : IfSome l.latest (λ d. IsChoiceOf (state_of l.state) l.coming d);
+  later : l.is_enough ≡ true → (v : Move) → v.instruction ≡ l.coming.instruction →
+      DoesSo l.hart (listed l.list) (opening_bytes l.pages.memory) (state_of l.state) l.coming.operation v → v.time ≡ later (listed l.list) →
+      HasFollower l.hart (listed l.list) (state_of l.state) v l.found.items;
   latest : (v : Move) → IsFound (listed l.list) (state_of l.state) l.latest v → HasFollower l.hart (listed l.list) (state_of l.state) v l.found.items;
 }
