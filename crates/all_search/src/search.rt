@@ -167,6 +167,15 @@ impl<'a> Search<'a> {
         self.walk.states
     }
 
+    /// The doublewords that one hart alone was seen to touch, each with the hart, in a fixed order.
+    ///
+    /// # Errors
+    ///
+    /// `OutOfMemory` alone.
+    pub fn touched_by_one(&self) -> Result<Vec<(u64, u8)>, OutOfMemory> {
+        self.walk.sharing.touched_by_one(self.alloc)
+    }
+
     /// How many doublewords are shared.
     pub fn count_shared(&self) -> u64 {
         self.walk.sharing.count_shared()

@@ -142,6 +142,22 @@ impl Sharing {
         (touched.readers | touched.writers) & bit_of(hart) != 0
     }
 
+    /// The doublewords that one hart alone touches, each with the hart, in a fixed order.
+    ///
+    /// # Errors
+    ///
+    /// `OutOfMemory` alone.
+    pub fn touched_by_one(&self, alloc: Global) -> Result<Vec<(u64, u8)>, OutOfMemory> {
+        let mut owned = Vec::new(alloc);
+        for (doubleword, touched) in &self.touched {
+            let all = touched.readers | touched.writers;
+            if !touched.is_shared && all.count_ones() == 1 {
+                owned.push((*doubleword, (all.trailing_zeros() % 64) as u8))?;
+            }
+        }
+        Ok(owned)
+    }
+
     /// How many doublewords are shared.
     pub fn count_shared(&self) -> u64 {
         let mut count = 0u64;
