@@ -1,3 +1,4 @@
 pub mod Bytes
 pub mod Looked
+pub mod Nobodys
 pub mod Walked

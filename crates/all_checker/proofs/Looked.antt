@@ -1,5 +1,5 @@
 -- Lists that are looked through.
-use Rattle.std.proofs.Common.{◌≡◌, ℕ, ◌+◌, ◌*◌, ◌<◌, ◌≤◌, List, [], ◌∷◌, ◌++◌, length, get_or, take, Contains, ap, ◌∙◌, subst, sym, inl, inr, arith}
+use Rattle.std.proofs.Common.{◌≡◌, ℕ, ◌+◌, ◌*◌, ◌<◌, ◌≤◌, Bool, List, [], ◌∷◌, ◌++◌, length, get_or, take, Contains, ap, ◌∙◌, subst, sym, inl, inr, arith}
 use Rattle.std.proofs.lemmas.List.{append_assoc, map-append, take_more}
 use Rattle.std.proofs.lemmas.List.Elements.{Contains-append_left, Contains-push_cases}
 use Rattle.std.specs.Global.{Vec}
@@ -10,11 +10,12 @@ use Rattle.hart_step.specs.Console.{ConsoleState, output_room}
 use Rattle.all_endings.specs.Endings.{AllEndingsWithin, Ending}
 use Rattle.all_endings.specs.Offering.{AreFresh}
 use Rattle.all_endings.specs.StoreLists.{Stored}
-use Rattle.all_endings.specs.Walking.{AreEndsOf, HartEnding, IsLookedThrough, WalkedTablesAreWhole, ending_with, seen_after}
+use Rattle.all_endings.specs.Walking.{AreEndsOf, HartEnding, ending_with, seen_after}
 use Rattle.hart_ends.proofs.Told.{new, pushed, told_by}
 use Rattle.hart_ends.specs.Told.{ways_told}
 use Rattle.hart_states.specs.declared.listed_store.ListedStore.{ListedStore}
 use Rattle.hart_states.specs.States.{listed, stored_of}
+use Rattle.private_bytes.specs.PrivateWalks.{AreNobodys, IsLookedThroughApart, PrivateTablesAreWhole}
 use Rattle.all_checker.specs.declared.looking.NodeWalks.{NodeWalks}
 use Rattle.all_checker.specs.Nodes.{AreWalked, NodesGrow, lists_told}
 
@@ -46,10 +47,10 @@ one_child stores n list old more longer store d within at is grown before s ther
       | inr now ↦ new list_told old more longer (list ++ s ∷ []) grown (is ∙ ap (λ (t : Stored). list ++ t ∷ []) now)
     ]
 
-module _ (k : ℕ) (image : Memory) (hs : List Hart) (see : List Range) where
+module _ (owns : ℕ → ℕ → Bool) (k : ℕ) (image : Memory) (hs : List Hart) (see : List Range) where
   -- where there are more nodes and more endings, a list is looked through that was
   pub looked_on : (ns os : List (List Stored)) (t u : List Ending) (m : List Stored) → ((n : List Stored) → Contains ns n → Contains os n) →
-      ((e : Ending) → Contains t e → Contains u e) → IsLookedThrough k image hs see ns t m → IsLookedThrough k image hs see os u m
+      ((e : Ending) → Contains t e → Contains u e) → IsLookedThroughApart owns k image hs see ns t m → IsLookedThroughApart owns k image hs see os u m
   looked_on ns os t u m nodes endings l = record {
     offered = l.offered;
     ways = l.ways;
@@ -60,9 +61,9 @@ module _ (k : ℕ) (image : Memory) (hs : List Hart) (see : List Range) where
   }
 
   -- a list is, if its harts are walked, and its lists and endings are there
-  pub looked_by : (ns : List (List Stored)) (t : List Ending) (m : List Stored) (w : NodeWalks) → AreWalked k image hs m w →
+  pub looked_by : (ns : List (List Stored)) (t : List Ending) (m : List Stored) (w : NodeWalks) → AreWalked owns k image hs m w →
       ((h : ℕ) (s : Stored) → Contains (get_or (lists_told w.offered.items) h []) s → Contains ns (m ++ s ∷ [])) →
-      ((es : List HartEnding) → AreEndsOf (ways_told w.ways.items) es → Contains t (ending_with es (seen_after image see m))) → IsLookedThrough k image hs see ns t m
+      ((es : List HartEnding) → AreEndsOf (ways_told w.ways.items) es → Contains t (ending_with es (seen_after image see m))) → IsLookedThroughApart owns k image hs see ns t m
   looked_by ns t m w walked grows has = record {
     offered = λ h. get_or (lists_told w.offered.items) h [];
     ways = ways_told w.ways.items;
@@ -73,10 +74,10 @@ module _ (k : ℕ) (image : Memory) (hs : List Hart) (see : List Range) where
   }
 
   -- all endings are in a table, if all nodes are looked through
-  pub whole_from : WalkedTablesAreWhole → (nodes : List (Vec ListedStore)) (table : List Ending) → AreFresh hs → k * length hs ≤ output_room → Contains (lists_told nodes) [] →
-      ((j : ℕ) (d : Vec ListedStore) → j < length nodes → IsLookedThrough k image hs see (lists_told nodes) table (list_told (get_or nodes j d))) →
+  pub whole_from : PrivateTablesAreWhole → (nodes : List (Vec ListedStore)) (table : List Ending) → AreFresh hs → k * length hs ≤ output_room → AreNobodys owns (length hs) see → Contains (lists_told nodes) [] →
+      ((j : ℕ) (d : Vec ListedStore) → j < length nodes → IsLookedThroughApart owns k image hs see (lists_told nodes) table (list_told (get_or nodes j d))) →
       (c : ConsoleState) → c.output ≡ [] → AllEndingsWithin k image hs c see table
-  whole_from law nodes table fresh room begins each c none =
-      law k image hs c see (lists_told nodes) table fresh (let l = ap (λ (bs : List ℕ). length bs) none in omega (arith, l, room)) begins (λ m there.
+  whole_from law nodes table fresh room nobodys begins each c none =
+      law owns k image hs c see (lists_told nodes) table fresh (let l = ap (λ (bs : List ℕ). length bs) none in omega (arith, l, room)) nobodys begins (λ m there.
       let x = told_by list_told nodes m there in
-      subst (λ (n : List Stored). IsLookedThrough k image hs see (lists_told nodes) table n) (ap list_told x.1.2 ∙ x.2) (each x.1.0 x.0 x.1.1))
+      subst (λ (n : List Stored). IsLookedThroughApart owns k image hs see (lists_told nodes) table n) (ap list_told x.1.2 ∙ x.2) (each x.1.0 x.0 x.1.1))

@@ -1,24 +1,26 @@
 //! The table of all endings.
-ghost use Rattle.std.specs.Prelude.{◌≡◌, ◌+◌, ◌*◌, ◌≤◌, ◌<◌, ◌^◌, [], ℕ, List, length, All as Each, Contains, IfOk, IsTrue, OnOk};
+ghost use Rattle.std.specs.Prelude.{◌≡◌, ◌+◌, ◌*◌, ◌≤◌, ◌<◌, ◌^◌, [], ℕ, Bool, List, length, All as Each, Contains, IfOk, IsTrue, OnOk};
 ghost use Rattle.pages.specs.declared.access.Range.{Range as Seen};
 ghost use Rattle.pages.specs.Memory.{Memory};
 ghost use Rattle.hart_step.specs.Console.{output_room};
 ghost use Rattle.hart_step.specs.declared.hart.Hart.{Hart as Begun};
 ghost use Rattle.all_endings.specs.Endings.{Ending};
 ghost use Rattle.all_endings.specs.Offering.{AreFresh};
-ghost use Rattle.all_endings.specs.Walking.{IsLookedThrough, seen_after};
+ghost use Rattle.all_endings.specs.Walking.{seen_after};
 ghost use Rattle.hart_ends.specs.Told.{bytes_told, table_told};
 ghost use Rattle.hart_states.specs.States.{listed};
+ghost use Rattle.private_bytes.specs.PrivateWalks.{IsLookedThroughApart};
 ghost use Rattle.all_checker.specs.Nodes.{AreWalked, NodesGrow, lists_told};
 ghost use Rattle.all_checker.specs.Tables.{IsFoundOf};
 
 use crate::looking::{Look, NodeWalks, add_nodes, look_through};
 use crate::memory::seen_bytes;
-use all_endings::walked_tables_are_whole;
+use crate::owning::{unseen, without};
 use hart_ends::{TableEnding, add_endings};
 use hart_step::Hart;
 use pages::{OutOfMemory, Pages, Range};
-use run_places::{ListedStore, Omission};
+use private_bytes::private_tables_are_whole;
+use run_places::{ListedStore, Omission, OwnDoubleword};
 use std::alloc::Global;
 
 /// How far is looked.
@@ -26,7 +28,7 @@ use std::alloc::Global;
 pub struct Bounds {
     /// So many instructions of each hart are followed. What is said holds of executions in which no hart does more.
     pub steps: u64,
-    /// So many lists of stores at most.
+    /// So many lists of stores to shared bytes at most.
     pub nodes: usize,
     /// So many places at most of the harts' runs against all lists together.
     pub places: usize,
@@ -63,6 +65,9 @@ pub enum Found {
 /// All endings of a guest under RVWMO, over all executions in which no hart does more than so many instructions. Endings show the bytes of
 /// some ranges of memory, and what each hart put out by itself. The observer looks on.
 ///
+/// Of some doublewords the caller may think that one hart alone touches them: then stores to them aren't listed. Where that isn't so, it is
+/// begun anew without them, and the bounds count anew.
+///
 /// # Errors
 ///
 /// `OutOfMemory` alone.
@@ -71,6 +76,7 @@ pub fn find_all<O: ListsObserver>(
     pages: &Pages,
     harts: &[Hart],
     see: &[Range],
+    hint: &[OwnDoubleword],
     bounds: Bounds,
     observer: &mut O,
 ) -> Result<Found, OutOfMemory>
@@ -80,10 +86,47 @@ pub fn find_all<O: ListsObserver>(
     ensures { IfOk result (λ f.
         IsFoundOf bounds.steps pages.now.memory harts.now see.now f) }
 {
-    walked_tables_are_whole();
     if !has_room(bounds.steps, harts.len()) {
         return Ok(Found::Unknown(Reason::Room));
     }
+    let mut owned = Vec::from_slice(alloc, hint)?;
+    for _ in 0..hint.len() {
+        let found = look_at_all(alloc, pages, harts, see, &owned, bounds, observer)?;
+        match strayed_to(&found) {
+            Some(doubleword) => owned = without(alloc, &owned, doubleword)?,
+            None => return Ok(found),
+        }
+    }
+    look_at_all(alloc, pages, harts, see, &owned, bounds, observer)
+}
+
+/// The doubleword that a hart strayed to, if that is why nothing is said.
+fn strayed_to(found: &Found) -> Option<u64> {
+    match *found {
+        Found::Unknown(Reason::Runs(Omission::Strays(doubleword))) => Some(doubleword),
+        _ => None,
+    }
+}
+
+/// All endings, where one hart alone touches these doublewords, but for those that are seen.
+fn look_at_all<O: ListsObserver>(
+    alloc: Global,
+    pages: &Pages,
+    harts: &[Hart],
+    see: &[Range],
+    hint: &[OwnDoubleword],
+    bounds: Bounds,
+    observer: &mut O,
+) -> Result<Found, OutOfMemory>
+    requires few { length harts.now ≤ 64 }
+    requires fresh { AreFresh harts.now }
+    requires ranges { Each (λ r. r.start + r.len < 2 ^ 64) see.now }
+    requires room { bounds.steps * length harts.now ≤ output_room }
+    ensures { IfOk result (λ f.
+        IsFoundOf bounds.steps pages.now.memory harts.now see.now f) }
+{
+    private_tables_are_whole();
+    let owned = unseen(alloc, hint, see)?;
     let mut nodes = first_nodes(alloc)?;
     let mut table = Vec::new(alloc);
     let mut left = bounds.places;
@@ -95,7 +138,7 @@ pub fn find_all<O: ListsObserver>(
             return Ok(Found::Unknown(Reason::Time));
         }
         let list = Vec::from_slice(alloc, &nodes[done])?;
-        match look_through(alloc, pages, harts, &list, bounds.steps, left)? {
+        match look_through(alloc, pages, harts, &owned, &list, bounds.steps, left)? {
             Look::Unknown(why) => return Ok(Found::Unknown(Reason::Runs(why))),
             Look::Whole(walks) => {
                 left = left.saturating_sub(walks.places);
@@ -128,11 +171,12 @@ fn take_in(
     ensures grows { OnOk result (NodesGrow nodes.old.items nodes.new.items) }
     ensures kept { OnOk result ((e : Ending) → Contains (table_told table.old.items) e →
         Contains (table_told table.new.items) e) }
-    ensures looked { OnOk result ((k : ℕ) (image : Memory) (hs : List Begun) (see : List Seen) →
-        AreWalked k image hs (listed list.now) walks.now →
+    ensures looked { OnOk result ((owns : ℕ → ℕ → Bool) (k : ℕ) (image : Memory)
+        (hs : List Begun) (see : List Seen) →
+        AreWalked owns k image hs (listed list.now) walks.now →
         bytes_told seen.now ≡ seen_after image see (listed list.now) →
-        IsLookedThrough k image hs see (lists_told nodes.new.items) (table_told table.new.items)
-        (listed list.now)) }
+        IsLookedThroughApart owns k image hs see (lists_told nodes.new.items)
+        (table_told table.new.items) (listed list.now)) }
 {
     add_endings(alloc, table, &walks.ways, seen)?;
     add_nodes(alloc, nodes, list, &walks.offered)?;

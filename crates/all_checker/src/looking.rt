@@ -2,12 +2,13 @@
 ghost use Rattle.std.specs.Prelude.{◌≡◌, ◌≤◌, ◌∷◌, ◌++◌, [], ℕ, List, length, slice_index_or, Contains, IfOk, OnOk};
 ghost use Rattle.all_endings.specs.StoreLists.{Stored};
 ghost use Rattle.hart_states.specs.States.{listed, stored_of};
+ghost use Rattle.own_moves.specs.Owned.{owns_of};
 ghost use Rattle.all_checker.specs.Nodes.{IsLookOf, NodesGrow, lists_told};
 
 use hart_ends::HartEnd;
 use hart_step::Hart;
 use pages::{OutOfMemory, Pages};
-use run_places::{Against, HartWalk, ListedStore, Omission, Walk, walk_hart};
+use run_places::{Against, HartWalk, ListedStore, Omission, OwnDoubleword, Walk, walk_hart};
 use std::alloc::Global;
 
 /// What all harts may do against a list.
@@ -30,7 +31,8 @@ pub enum Look {
     Unknown(Omission),
 }
 
-/// Walks through the runs of all harts against a list, of at most so many instructions each, by at most so many places.
+/// Walks through the runs of all harts against a list of stores to nobody's own bytes, of at most so many instructions each, by at most so
+/// many places.
 ///
 /// # Errors
 ///
@@ -39,13 +41,14 @@ pub(crate) fn look_through(
     alloc: Global,
     pages: &Pages,
     harts: &[Hart],
+    owned: &[OwnDoubleword],
     list: &[ListedStore],
     steps: u64,
     most: usize,
 ) -> Result<Look, OutOfMemory>
     requires { length harts.now ≤ 64 }
     ensures { IfOk result (λ l.
-        IsLookOf steps pages.now.memory harts.now (listed list.now) l) }
+        IsLookOf (owns_of owned.now) steps pages.now.memory harts.now (listed list.now) l) }
 {
     let mut walks = NodeWalks {
         offered: Vec::new(alloc),
@@ -56,6 +59,8 @@ pub(crate) fn look_through(
         let against = Against {
             pages,
             hart: hart as u8,
+            harts: harts.len() as u8,
+            owned,
             list,
             steps,
         };

@@ -1,7 +1,7 @@
 -- Which stores of a list were done.
 use Rattle.std.proofs.Common.{◌≡◌, ℕ, ◌==◌, ◌||◌, ◌⊎◌, Bool, true, false, List, [], ◌∷◌, ◌++◌, refl, inl, inr}
 use Rattle.std.proofs.lemmas.Bool.{eq-eqb, eqb-true, or_cases}
-use Rattle.run_places.specs.Places.{is_among}
+use Rattle.run_places.specs.Spots.{is_among}
 
 or_left : (a b : Bool) → a ≡ true → (a || b) ≡ true
 or_left true b e = refl

@@ -1,38 +1,47 @@
--- What follows one place of a hart's runs.
-use Rattle.std.specs.Prelude.{◌≡◌, ℕ, ◌<◌, ◌⊎◌, true, List, Contains, Some, None}
+-- What follows one spot of a hart's runs.
+use Rattle.std.specs.Prelude.{◌≡◌, ℕ, ◌<◌, ◌⊎◌, Bool, true, false, List, Contains, Some, None}
 use Rattle.pages.specs.Memory.{Memory}
+use Rattle.rv64_decode.specs.declared.instruction.Instr.TheVariants.{Ecall}
 use Rattle.hart_step.specs.DecodedCode.{decoded}
 use Rattle.all_endings.specs.Endings.{opening_bytes}
-use Rattle.all_endings.specs.Factorizing.{IsOpenCall}
-use Rattle.all_endings.specs.HartRuns.{Acts, IsPlaced, Stands}
+use Rattle.all_endings.specs.HartRuns.{IsPlaced, Stands}
 use Rattle.all_endings.specs.Offering.{Offers}
 use Rattle.all_endings.specs.RunStates.{Move, operates}
 use Rattle.all_endings.specs.StoreLists.{Stored}
-use Rattle.all_endings.specs.Walking.{EndsAt, HartEnding, IsCovered, IsPaid, Place, place_after, place_with}
+use Rattle.all_endings.specs.Walking.{EndsAt, HartEnding, IsPaid}
+use Rattle.private_bytes.specs.Owners.{KeepsToItself, is_own}
+use Rattle.private_bytes.specs.PrivateMoves.{ActsApart}
+use Rattle.private_bytes.specs.PrivateWalks.{IsCoveredApart, Spot, spot_after, spot_with}
 
--- some places cover what each move of a place leads to
-abbrev pub CoverMoves : ℕ → Memory → ℕ → List Stored → Place → List Place → Type 0
-CoverMoves k image h m p ps =
-    (v : Move) → p.count < k → decoded image p.state.pc ≡ Some v.instruction → Acts image h m (opening_bytes image) (IsPlaced h m) p.state v →
-    (operates v ≡ true → Stands p.state v) → IsCovered m ps (place_after h m p v)
+-- some spots cover what each move of a spot leads to
+abbrev pub CoverMoves : (ℕ → ℕ → Bool) → ℕ → Memory → ℕ → List Stored → Spot → List Spot → Type 0
+CoverMoves owns k image h m p ps =
+    (v : Move) → p.place.count < k → decoded image p.place.state.pc ≡ Some v.instruction → ActsApart owns image h m (opening_bytes image) (IsPlaced h m) p.place.state v →
+    (operates v ≡ true → Stands p.place.state v) → IsCoveredApart m ps (spot_after owns h m p v)
 
--- a store that a place is offered is among some, or a place with it is covered
-abbrev pub CoverOffers : Memory → ℕ → List Stored → Place → List Stored → List Place → Type 0
-CoverOffers image h m p offered ps =
-    (s : Stored) → p.next ≡ None → Offers image h m (opening_bytes image) p.state s → Contains offered s ⊎ IsCovered m ps (place_with p s)
+-- a store to nobody's own bytes that a spot is offered is among some, or a spot with it is covered
+abbrev pub CoverOffers : (ℕ → ℕ → Bool) → Memory → ℕ → List Stored → Spot → List Stored → List Spot → Type 0
+CoverOffers owns image h m p offered ps =
+    (s : Stored) → p.place.next ≡ None → is_own owns h s.address ≡ false → Offers image h m (opening_bytes image) p.place.state s →
+    Contains offered s ⊎ IsCoveredApart m ps (spot_with p s)
 
 -- of a hart that owes nothing, the store that comes next is among some
-abbrev pub TellNext : ℕ → List Stored → Place → List Stored → Type 0
-TellNext h m p offered = (s : Stored) → p.next ≡ Some s → IsPaid h m p → Contains offered s
+abbrev pub TellNext : ℕ → List Stored → Spot → List Stored → Type 0
+TellNext h m p offered = (s : Stored) → p.place.next ≡ Some s → IsPaid h m p.place → Contains offered s
 
 -- so are its ends
-abbrev pub TellEnds : Memory → ℕ → List Stored → Place → List HartEnding → Type 0
-TellEnds image h m p ends = (e : HartEnding) → EndsAt image h m p e → Contains ends e
+abbrev pub TellEnds : Memory → ℕ → List Stored → Spot → List HartEnding → Type 0
+TellEnds image h m p ends = (e : HartEnding) → EndsAt image h m p.place e → Contains ends e
 
--- all that `IsWalked` asks of one place
-pub record IsFollowed (k : ℕ) (image : Memory) (h : ℕ) (m : List Stored) (p : Place) (offered : List Stored) (ends : List HartEnding) (ps : List Place) : Type 0 where
-  pub moves : CoverMoves k image h m p ps
-  pub offers : CoverOffers image h m p offered ps
+-- a call that comes next has a constant number
+abbrev pub KnowsCall : Memory → Spot → Type 0
+KnowsCall image p = decoded image p.place.state.pc ≡ Some Ecall → p.constant ≡ true
+
+-- all that `IsWalkedApart` asks of one spot
+pub record IsFollowed (owns : ℕ → ℕ → Bool) (k : ℕ) (image : Memory) (harts h : ℕ) (m : List Stored) (p : Spot) (offered : List Stored) (ends : List HartEnding) (ps : List Spot) : Type 0 where
+  pub apart : KeepsToItself owns image harts h p.place.state
+  pub moves : CoverMoves owns k image h m p ps
+  pub offers : CoverOffers owns image h m p offered ps
   pub grows : TellNext h m p offered
-  pub calls : IsOpenCall image p.state → ⊥
+  pub calls : KnowsCall image p
   pub endings : TellEnds image h m p ends

@@ -1,17 +1,18 @@
 -- What was found to follow a place.
-use Rattle.std.specs.Prelude.{ℕ, List, Option}
+use Rattle.std.specs.Prelude.{ℕ, Bool, List, Option}
 use Rattle.std.specs.Option.{option_to_list}
 use Rattle.pages.specs.Memory.{Memory}
 use Rattle.all_endings.specs.StoreLists.{Stored}
-use Rattle.all_endings.specs.Walking.{HartEnding, Place}
+use Rattle.all_endings.specs.Walking.{HartEnding}
 use Rattle.hart_ends.specs.declared.ends.HartEnd.{HartEnd}
 use Rattle.hart_ends.specs.Told.{ends_told}
 use Rattle.hart_states.specs.declared.listed_store.ListedStore.{ListedStore}
 use Rattle.hart_states.specs.States.{listed}
+use Rattle.private_bytes.specs.PrivateWalks.{Spot}
 use Rattle.run_places.specs.declared.following.Outcome.{Outcome}
 use Rattle.run_places.specs.declared.following.Outcome.TheVariants.{Unknown, Whole}
 use Rattle.run_places.specs.Following.{IsFollowed}
-use Rattle.run_places.specs.Places.{places_of}
+use Rattle.run_places.specs.Spots.{spots_of}
 
 abbrev pub offer_told : Option ListedStore → List Stored
 offer_told o = listed (option_to_list o)
@@ -19,6 +20,6 @@ offer_told o = listed (option_to_list o)
 abbrev pub end_found : Option HartEnd → List HartEnding
 end_found e = ends_told (option_to_list e)
 
-abbrev pub IsOutcomeOf : ℕ → Memory → ℕ → List Stored → Place → Outcome → Type 0
-IsOutcomeOf k image h m p (Whole f) = IsFollowed k image h m p (offer_told f.offered) (end_found f.end) (places_of f.reached.items)
-IsOutcomeOf k image h m p (Unknown why) = Unit {0}
+abbrev pub IsOutcomeOf : (ℕ → ℕ → Bool) → ℕ → Memory → ℕ → ℕ → List Stored → Spot → Outcome → Type 0
+IsOutcomeOf owns k image harts h m p (Whole f) = IsFollowed owns k image harts h m p (offer_told f.offered) (end_found f.end) (spots_of f.reached.items)
+IsOutcomeOf owns k image harts h m p (Unknown why) = Unit {0}

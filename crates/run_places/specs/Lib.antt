@@ -1,5 +1,6 @@
 pub mod Bounds
+pub mod Constants
 pub mod Following
 pub mod Found
-pub mod Places
+pub mod Spots
 pub mod Walks

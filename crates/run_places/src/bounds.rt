@@ -1,9 +1,10 @@
 //! Bounds that are at most others.
 ghost use Rattle.std.specs.Prelude.{◌≡◌, ◌<◌, ◌≤◌, ℕ, IsTrue, option_map, slice_index};
-ghost use Rattle.all_endings.specs.Lowering.{CarriedAtMost, KindsAtMost, OwnAtMost};
+ghost use Rattle.all_endings.specs.Lowering.{CarriedAtMost, KindsAtMost};
 ghost use Rattle.hart_states.specs.States.{own_of};
+ghost use Rattle.private_bytes.specs.Ahead.{OwnAhead, Tells};
 ghost use Rattle.run_bounds.specs.Bounds.{carried_of, kinds_of};
-ghost use Rattle.run_places.specs.Bounds.{AreBytesAtMost, IsByteAtMost, IsStoredAlike};
+ghost use Rattle.run_places.specs.Bounds.{AreBytesAhead, IsByteAhead, IsStoredAhead};
 
 use run_bounds::{CarriedTimes, KindTimes, OwnByte, TouchedByte};
 
@@ -45,15 +46,16 @@ pub(crate) fn all_at_most(a: &[usize; 8], b: &[usize; 8]) -> bool
     true
 }
 
-/// Whether all bounds by bytes are at most others: of the same bytes in the same order, behind which the hart has stored to none.
-pub(crate) fn bytes_at_most(a: &[TouchedByte], b: &[TouchedByte]) -> bool
-    ensures { IsTrue result → AreBytesAtMost a.now b.now }
+/// Whether all bounds by bytes are at most others, and no less is known of the hart's stores: of the same bytes in the same order, behind
+/// which the hart has stored to none.
+pub(crate) fn bytes_ahead(a: &[TouchedByte], b: &[TouchedByte]) -> bool
+    ensures { IsTrue result → AreBytesAhead a.now b.now }
 {
     if a.len() > b.len() {
         return false;
     }
     for index in 0..a.len() {
-        if !byte_at_most(&a[index], &b[index]) {
+        if !byte_ahead(&a[index], &b[index]) {
             return false;
         }
     }
@@ -65,28 +67,32 @@ pub(crate) fn bytes_at_most(a: &[TouchedByte], b: &[TouchedByte]) -> bool
     true
 }
 
-fn byte_at_most(a: &TouchedByte, b: &TouchedByte) -> bool
-    ensures { IsTrue result → IsByteAtMost a.now b.now }
+fn byte_ahead(a: &TouchedByte, b: &TouchedByte) -> bool
+    ensures { IsTrue result → IsByteAhead a.now b.now }
 {
-    a.address == b.address
-        && a.touched <= b.touched
-        && a.seen <= b.seen
-        && own_at_most(a.own, b.own)
+    a.address == b.address && a.touched <= b.touched && a.seen <= b.seen && own_ahead(a.own, b.own)
 }
 
-fn own_at_most(a: Option<OwnByte>, b: Option<OwnByte>) -> bool
-    ensures { IsTrue result → OwnAtMost (option_map own_of a) (option_map own_of b) }
+fn own_ahead(a: Option<OwnByte>, b: Option<OwnByte>) -> bool
+    ensures { IsTrue result → OwnAhead (option_map own_of a) (option_map own_of b) }
 {
     match (a, b) {
         (None, None) => true,
-        (Some(o), Some(p)) => stored_alike(&o, &p),
+        (Some(o), Some(p)) => stored_ahead(&o, &p),
         _ => false,
     }
 }
 
-/// Whether two last stores are the same, and the first one's address and data depend on nothing later.
-fn stored_alike(o: &OwnByte, p: &OwnByte) -> bool
-    ensures { IsTrue result → IsStoredAlike o.now p.now }
+/// Whether two last stores are the same, no less is known of the first one, and its address and data depend on nothing later.
+fn stored_ahead(o: &OwnByte, p: &OwnByte) -> bool
+    ensures { IsTrue result → IsStoredAhead o.now p.now }
 {
-    o.place == p.place && o.byte == p.byte && o.atomic == p.atomic && o.needs <= p.needs
+    o.place == p.place && byte_tells(p.byte, o.byte) && o.atomic == p.atomic && o.needs <= p.needs
+}
+
+/// Whether the second byte is the first one, where that is known.
+pub(crate) fn byte_tells(told: Option<u8>, teller: Option<u8>) -> bool
+    ensures { IsTrue result → Tells told teller }
+{
+    told.is_none() || told == teller
 }

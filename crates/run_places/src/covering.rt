@@ -1,10 +1,10 @@
 //! The places of a hart's runs, each beside those at the same instruction.
 ghost use Rattle.std.specs.Prelude.{◌≡◌, List, [], IsTrue, OnOk};
 ghost use Rattle.all_endings.specs.StoreLists.{Stored};
-ghost use Rattle.all_endings.specs.Walking.{IsCovered};
-ghost use Rattle.run_places.specs.Places.{Grows, place_of, places_of};
+ghost use Rattle.private_bytes.specs.PrivateWalks.{IsCoveredApart};
+ghost use Rattle.run_places.specs.Spots.{Grows, spot_of, spots_of};
 
-use crate::lower::stands_for;
+use crate::ahead::stands_for;
 use crate::place::{Place, is_itself};
 use pages::OutOfMemory;
 use std::alloc::Global;
@@ -41,7 +41,7 @@ impl Places {
     pub(crate) fn add(&mut self, place: Place) -> Result<(), OutOfMemory>
         ensures grows { OnOk result (Grows self.old.all.items self.new.all.items) }
         ensures covered { OnOk result ((m : List Stored) →
-            IsCovered m (places_of self.new.all.items) (place_of place)) }
+            IsCoveredApart m (spots_of self.new.all.items) (spot_of place)) }
     {
         if self.covers(&place) {
             return Ok(());
@@ -58,7 +58,7 @@ impl Places {
     /// Whether one that is there stands for a place.
     fn covers(&self, place: &Place) -> bool
         ensures { IsTrue result → (m : List Stored) →
-            IsCovered m (places_of self.now.all.items) (place_of place.now) }
+            IsCoveredApart m (spots_of self.now.all.items) (spot_of place.now) }
     {
         let mut at = self.latest.get(&place.state.pc).copied();
         for _ in 0..self.all.len() {
@@ -81,7 +81,7 @@ impl Places {
 /// Whether a place that is there stands for another one.
 fn stands_at(all: &[Place], index: usize, place: &Place) -> bool
     ensures { IsTrue result → (m : List Stored) →
-        IsCovered m (places_of all.now) (place_of place.now) }
+        IsCoveredApart m (spots_of all.now) (spot_of place.now) }
 {
     if index >= all.len() {
         return false;

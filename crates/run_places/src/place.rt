@@ -1,11 +1,11 @@
 //! Where a run of a hart is.
-ghost use Rattle.std.specs.Prelude.{◌≡◌, ◌<◌, ◌-◌, ◌^◌, ℕ, true, List, length, IfOk};
+ghost use Rattle.std.specs.Prelude.{◌≡◌, ◌<◌, ◌-◌, ◌^◌, ℕ, Bool, true, List, length, IfOk, IsTrue, Some};
 ghost use Rattle.all_endings.specs.RunStates.{Move};
 ghost use Rattle.all_endings.specs.StoreLists.{Stored};
-ghost use Rattle.all_endings.specs.Walking.{StandsFor, place_after, place_with};
-ghost use Rattle.hart_states.specs.Following.{Follows};
 ghost use Rattle.hart_states.specs.States.{state_of, stored_of};
-ghost use Rattle.run_places.specs.Places.{is_among, place_of};
+ghost use Rattle.own_moves.specs.Moves.{FollowsApart};
+ghost use Rattle.private_bytes.specs.PrivateWalks.{StandsForApart, constant_after, spot_after, spot_with};
+ghost use Rattle.run_places.specs.Spots.{is_among, spot_of};
 
 use hart_states::{ListedStore, RunState, Successor, is_sized};
 use pages::OutOfMemory;
@@ -22,6 +22,8 @@ pub struct Place {
     pub paid: Vec<usize>,
     /// The store that comes next, if it was offered one.
     pub next: Option<ListedStore>,
+    /// Whether the number in x17 is a constant of the code.
+    pub constant: bool,
 }
 
 /// Whether a store of the list is among those that were done.
@@ -31,16 +33,18 @@ pub(crate) fn is_paid(paid: &[usize], store: usize) -> bool
     paid.contains(&store)
 }
 
-/// The place behind a move.
+/// The place behind a move, and whether the number in x17 is a constant there.
 pub(crate) fn place_behind(
     alloc: Global,
     place: &Place,
     successor: Successor,
+    constant: bool,
 ) -> Result<Place, OutOfMemory>
     requires { place.now.count < 2 ^ 64 - 1 }
-    ensures { IfOk result (λ q. (h : ℕ) (m : List Stored) (v : Move) →
-        Follows h m (state_of place.now.state) v successor →
-        StandsFor m (place_of q) (place_after h m (place_of place.now) v)) }
+    ensures { IfOk result (λ q. (owns : ℕ → ℕ → Bool) (h : ℕ) (m : List Stored) (v : Move) →
+        FollowsApart owns h m (state_of place.now.state) v successor →
+        (IsTrue constant → constant_after place.now.constant v ≡ true) →
+        StandsForApart m (spot_of q) (spot_after owns h m (spot_of place.now) v)) }
 {
     let Successor { state, done } = successor;
     Ok(Place {
@@ -48,6 +52,7 @@ pub(crate) fn place_behind(
         count: place.count + 1,
         paid: paid_more(alloc, &place.paid, done)?,
         next: place.next,
+        constant,
     })
 }
 
@@ -83,7 +88,7 @@ pub(crate) fn place_with(
     store: ListedStore,
 ) -> Result<Place, OutOfMemory>
     ensures { IfOk result (λ q. (m : List Stored) →
-        StandsFor m (place_of q) (place_with (place_of place.now) (stored_of store))) }
+        StandsForApart m (spot_of q) (spot_with (spot_of place.now) (stored_of store))) }
 {
     is_itself(place);
     Ok(Place {
@@ -91,6 +96,7 @@ pub(crate) fn place_with(
         count: place.count,
         paid: Vec::from_slice(alloc, &place.paid)?,
         next: Some(store),
+        constant: place.constant,
     })
 }
 
@@ -113,7 +119,7 @@ fn copied(alloc: Global, state: &RunState) -> Result<RunState, OutOfMemory>
 
 /// A place stands for itself.
 pub(crate) fn is_itself(place: &Place)
-    ensures { (m : List Stored) → StandsFor m (place_of place.now) (place_of place.now) }
+    ensures { (m : List Stored) → StandsForApart m (spot_of place.now) (spot_of place.now) }
 {
     is_sized(&place.state);
 }

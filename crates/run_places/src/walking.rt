@@ -1,11 +1,13 @@
 //! A walk through all places.
 ghost use Rattle.std.specs.Prelude.{List, Contains, IfOk, IsTrue, OnOk};
 ghost use Rattle.all_endings.specs.StoreLists.{Stored};
-ghost use Rattle.all_endings.specs.Walking.{HartEnding, IsCovered, Place as RunPlace};
+ghost use Rattle.all_endings.specs.Walking.{HartEnding};
 ghost use Rattle.hart_ends.specs.Told.{ends_told};
 ghost use Rattle.hart_states.specs.States.{listed, stored_of};
+ghost use Rattle.own_moves.specs.Owned.{owns_of};
+ghost use Rattle.private_bytes.specs.PrivateWalks.{IsCoveredApart, Spot};
 ghost use Rattle.run_places.specs.Found.{end_found, offer_told};
-ghost use Rattle.run_places.specs.Places.{Grows, places_of};
+ghost use Rattle.run_places.specs.Spots.{Grows, spots_of};
 ghost use Rattle.run_places.specs.Walks.{IsWalkOf};
 
 use crate::covering::Places;
@@ -15,6 +17,7 @@ use hart_ends::{HartEnd, has_end};
 use hart_states::{ListedStore, start};
 use hart_step::Hart;
 use pages::OutOfMemory;
+use private_bytes::lower_states_are_ahead;
 use std::alloc::Global;
 
 /// What a hart's runs against a list came to.
@@ -49,9 +52,10 @@ pub fn walk_hart(
     most: usize,
 ) -> Result<Walk, OutOfMemory>
     ensures { IfOk result (λ w.
-        IsWalkOf against.now.steps against.now.pages.now.memory against.now.hart
-        (listed against.now.list.now) hart.now w) }
+        IsWalkOf (owns_of against.now.owned.now) against.now.steps against.now.pages.now.memory
+        against.now.harts against.now.hart (listed against.now.list.now) hart.now w) }
 {
+    lower_states_are_ahead();
     let mut places = Places::new(alloc);
     let state = start(alloc, hart);
     let first = Place {
@@ -59,6 +63,7 @@ pub fn walk_hart(
         count: 0,
         paid: Vec::new(alloc),
         next: None,
+        constant: true,
     };
     places.add(first)?;
     let mut walk = HartWalk {
@@ -83,9 +88,9 @@ pub fn walk_hart(
 /// Keeps what follows a place.
 fn take_in(walk: &mut HartWalk, places: &mut Places, found: Found) -> Result<(), OutOfMemory>
     ensures grows { OnOk result (Grows places.old.all.items places.new.all.items) }
-    ensures covered { OnOk result ((m : List Stored) (p : RunPlace) →
-        IsCovered m (places_of found.reached.items) p →
-        IsCovered m (places_of places.new.all.items) p) }
+    ensures covered { OnOk result ((m : List Stored) (p : Spot) →
+        IsCoveredApart m (spots_of found.reached.items) p →
+        IsCoveredApart m (spots_of places.new.all.items) p) }
     ensures offered_stay { OnOk result ((s : Stored) → Contains (listed walk.old.offered.items) s →
         Contains (listed walk.new.offered.items) s) }
     ensures offered { OnOk result ((s : Stored) → Contains (offer_told found.offered) s →
@@ -147,8 +152,9 @@ fn keep_end(ends: &mut Vec<HartEnd>, found: Option<HartEnd>) -> Result<(), OutOf
 /// Adds places, but for those for which some stand.
 fn add_all(places: &mut Places, reached: Vec<Place>) -> Result<(), OutOfMemory>
     ensures grows { OnOk result (Grows places.old.all.items places.new.all.items) }
-    ensures covered { OnOk result ((m : List Stored) (p : RunPlace) →
-        IsCovered m (places_of reached.items) p → IsCovered m (places_of places.new.all.items) p) }
+    ensures covered { OnOk result ((m : List Stored) (p : Spot) →
+        IsCoveredApart m (spots_of reached.items) p →
+        IsCoveredApart m (spots_of places.new.all.items) p) }
 {
     for place in reached {
         places.add(place)?;

@@ -10,12 +10,12 @@ use Rattle.all_checker.proofs.Looked.{looked_by}
 use Rattle.all_checker.proofs.finding.take_in.Goals as goal
 
 pub returns-clause-looked : goal.returns-clause-looked
-returns-clause-looked c = λ k image hs see walked seen.
+returns-clause-looked c = λ owns k image hs see walked seen.
     let walks = c.args.walks.now in
     let ways : c.deref.result.now ≡ walks.ways.items = c.deref.ensures.value in
     let offered : c.deref-2.result.now ≡ walks.offered.items = c.deref-2.ensures.value in
     let table = table_told c.add_endings.new.table.items in
-    looked_by k image hs see (lists_told c.add_nodes.new.nodes.items) table (listed c.args.list.now) walks walked
+    looked_by owns k image hs see (lists_told c.add_nodes.new.nodes.items) table (listed c.args.list.now) walks walked
     (λ h s there. c.in_ok-add_nodes.ensures.added h s (subst (λ (ls : List (Vec ListedStore)). Contains (get_or (lists_told ls) h []) s) (sym offered) there))
     (λ es all. subst (λ (bs : List (List ℕ)). Contains table (ending_with es bs)) seen
     (c.in_ok-add_endings.ensures.added es (subst (λ (ws : List (Vec HartEnd)). AreEndsOf (ways_told ws) es) (sym ways) all)))

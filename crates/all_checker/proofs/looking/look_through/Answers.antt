@@ -1,4 +1,4 @@
-use Rattle.std.proofs.Common.{◌≡◌, ℕ, ◌≤◌, List, [], ◌∷◌, length, refl, ap, subst, arith, length-append}
+use Rattle.std.proofs.Common.{◌≡◌, ℕ, ◌≤◌, Bool, List, [], ◌∷◌, length, refl, ap, subst, arith, length-append}
 use Rattle.std.proofs.lemmas.List.{length-map}
 use Rattle.std.specs.Global.{Vec}
 use Rattle.hart_ends.specs.declared.ends.HartEnd.{HartEnd}
@@ -8,7 +8,8 @@ use Rattle.hart_states.specs.States.{listed}
 use Rattle.pages.specs.Memory.{Memory}
 use Rattle.hart_step.specs.declared.hart.Hart.{Hart}
 use Rattle.all_endings.specs.StoreLists.{Stored}
-use Rattle.all_endings.specs.Walking.{HasWalk}
+use Rattle.own_moves.specs.Owned.{owns_of}
+use Rattle.private_bytes.specs.PrivateWalks.{HasWalkApart}
 use Rattle.run_places.specs.declared.walking.HartWalk.{HartWalk}
 use Rattle.run_places.specs.declared.walking.Walk.{Walk}
 use Rattle.run_places.specs.declared.walking.Walk.TheVariants.{Whole}
@@ -18,13 +19,14 @@ use Rattle.all_checker.proofs.Walked.{one_walked}
 use Rattle.all_checker.proofs.looking.look_through.Goals as goal
 
 -- what is said where a hart was walked
-walk_is : (k : ℕ) (image : Memory) (h : ℕ) (m : List Stored) (hart : Hart) (w : Walk) (walk : HartWalk) → w ≡ Whole walk → IsWalkOf k image h m hart w →
-    HasWalk k image h m hart (listed walk.offered.items) (ends_told walk.ends.items)
-walk_is k image h m hart w walk e is = subst (λ (u : Walk). IsWalkOf k image h m hart u) e is
+walk_is : (owns : ℕ → ℕ → Bool) (k : ℕ) (image : Memory) (harts h : ℕ) (m : List Stored) (hart : Hart) (w : Walk) (walk : HartWalk) → w ≡ Whole walk → IsWalkOf owns k image harts h m hart w →
+    HasWalkApart owns k image harts h m hart (listed walk.offered.items) (ends_told walk.ends.items)
+walk_is owns k image harts h m hart w walk e is = subst (λ (u : Walk). IsWalkOf owns k image harts h m hart u) e is
 
 pub loop-hart-preserved : goal.loop-hart-preserved
 loop-hart-preserved c =
     let i = c.loop-hart.invariant in
+    let owns = owns_of c.args.owned.now in
     let k = c.args.steps in
     let image = c.args.pages.now.memory in
     let hs = c.args.harts.now in
@@ -38,8 +40,8 @@ loop-hart-preserved c =
     record {
       offered = (let e = ap (λ (ss : List (Vec ListedStore)). length ss) grown in let l = length-append offers (walk.offered ∷ []) in let o = i.offered in omega (arith, e, l, o));
       ways = (let e = ap (λ (es : List (Vec HartEnd)). length es) grown2 in let l = length-append ways (walk.ends ∷ []) in let o = i.ways in omega (arith, e, l, o));
-      walks = one_walked list_told (λ (w : Vec HartEnd). ends_told w.items) k image hs m n offers c.push.new.self.items ways c.push-in-Whole.new.self.items walk.offered walk.ends _ _
-          c.loop-hart-test.true refl i.offered i.ways grown grown2 (walk_is k image n m _ _ walk c.in-Whole.is c.in_ok-why.ensures) i.walks;
+      walks = one_walked list_told (λ (w : Vec HartEnd). ends_told w.items) owns k image hs m n offers c.push.new.self.items ways c.push-in-Whole.new.self.items walk.offered walk.ends _ _
+          c.loop-hart-test.true refl i.offered i.ways grown grown2 (walk_is owns k image (length hs) n m _ _ walk c.in-Whole.is c.in_ok-why.ensures) i.walks;
     }
 
 pub returns : goal.returns

@@ -1,5 +1,5 @@
 use Rattle.std.proofs.Common.{arith}
-use Rattle.run_places.specs.Places.{place_of}
+use Rattle.run_places.specs.Spots.{spot_of}
 use Rattle.run_places.proofs.Standing.{place_at}
 use Rattle.run_places.proofs.covering.stands_at.Goals as goal
 
@@ -7,4 +7,4 @@ pub returns : goal.returns
 returns c = λ yes m.
     let other = c.index-all-index.result in
     let within = c.if-index-all.false in
-    (place_of other, place_at c.args.all.now c.args.index other (omega (arith, within)) c.index-all-index.is, c.stands_for.ensures yes m)
+    (spot_of other, place_at c.args.all.now c.args.index other (omega (arith, within)) c.index-all-index.is, c.stands_for.ensures yes m)

@@ -1,8 +1,8 @@
 use Rattle.std.proofs.Common.{List, [], ◌∷◌, Contains, sym, subst, inl, inr}
 use Rattle.std.proofs.lemmas.List.{map-append}
 use Rattle.std.proofs.lemmas.List.Elements.{Contains-push_cases}
-use Rattle.all_endings.specs.Walking.{Place, StandsFor}
-use Rattle.run_places.specs.Places.{place_of, places_of}
+use Rattle.private_bytes.specs.PrivateWalks.{Spot, StandsForApart}
+use Rattle.run_places.specs.Spots.{spot_of, spots_of}
 use Rattle.run_places.proofs.Standing.{covered_stays, grows_on, stands_on}
 use Rattle.run_places.proofs.walking.add_all.Goals as goal
 
@@ -16,11 +16,11 @@ loop-place-preserved c =
     let kept = c.in_ok-add.ensures in
     record {
       grows = grows_on c.args.places.now.all.items old new i.grows kept.grows;
-      covered = λ m p at. elim (Contains-push_cases (places_of yielded) (place_of place) at.0
-          (subst (λ (qs : List Place). Contains qs at.0) (map-append place_of yielded (place ∷ [])) at.1)) [
+      covered = λ m p at. elim (Contains-push_cases (spots_of yielded) (spot_of place) at.0
+          (subst (λ (qs : List Spot). Contains qs at.0) (map-append spot_of yielded (place ∷ [])) at.1)) [
             | inl before ↦ covered_stays m old new p kept.grows (i.covered m p (at.0, before, at.2))
             | inr now ↦
                 let k = kept.covered m in
-                (k.0, k.1, stands_on m k.0 (place_of place) p k.2 (subst (λ (q : Place). StandsFor m q p) (sym now) at.2))
+                (k.0, k.1, stands_on m k.0 (spot_of place) p k.2 (subst (λ (q : Spot). StandsForApart m q p) (sym now) at.2))
           ];
     }

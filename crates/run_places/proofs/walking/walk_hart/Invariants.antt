@@ -1,16 +1,17 @@
 use Rattle.std.proofs.Common.{ℕ, ◌<◌, get_or, List}
 use Rattle.all_endings.specs.StoreLists.{Stored}
-use Rattle.all_endings.specs.Walking.{IsCovered, first_place}
+use Rattle.own_moves.specs.Owned.{owns_of}
+use Rattle.private_bytes.specs.PrivateWalks.{IsCoveredApart, first_spot}
 use Rattle.hart_ends.specs.Told.{ends_told}
 use Rattle.hart_states.specs.States.{listed}
 use Rattle.run_places.specs.declared.place.Place.{Place}
 use Rattle.run_places.specs.Following.{IsFollowed}
-use Rattle.run_places.specs.Places.{place_of, places_of}
+use Rattle.run_places.specs.Spots.{spot_of, spots_of}
 use Rattle.run_places.proofs.walking.walk_hart.Given as goal
 
 abbrev pub invariant-loop-done : goal.invariant-loop-done
 invariant-loop-done l = record {
-  begins : (m : List Stored) → IsCovered m (places_of l.places.all.items) (first_place l.hart);
-  followed : (j : ℕ) (d : Place) → j < l.done → IsFollowed l.against.steps l.against.pages.now.memory l.against.hart (listed l.against.list.now)
-      (place_of (get_or l.places.all.items j d)) (listed l.walk.offered.items) (ends_told l.walk.ends.items) (places_of l.places.all.items);
+  begins : (m : List Stored) → IsCoveredApart m (spots_of l.places.all.items) (first_spot l.hart);
+  followed : (j : ℕ) (d : Place) → j < l.done → IsFollowed (owns_of l.against.owned.now) l.against.steps l.against.pages.now.memory l.against.harts l.against.hart (listed l.against.list.now)
+      (spot_of (get_or l.places.all.items j d)) (listed l.walk.offered.items) (ends_told l.walk.ends.items) (spots_of l.places.all.items);
 }
