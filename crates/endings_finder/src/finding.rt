@@ -12,8 +12,9 @@ ghost use Rattle.endings_finder.specs.AllEndings.{AreAllowed, AreConfirmed, AreK
 use crate::confirming::{Confirmed, has_waiting};
 use crate::guest::{Guest, searched_guest, searched_ranges};
 use crate::others::{Reach, others_than};
-use crate::searching::{EndingsObserver, search_through};
+use crate::searching::{EndingsObserver, own_doublewords, search_through};
 use crate::settings::EndingsSettings;
+use all_checker::OwnDoubleword;
 use all_search::{Guest as SearchedGuest, Limits, Omission, Search};
 use elf_loader::Image;
 use endings_table::{EndingsTable, Others, Why, write_endings};
@@ -181,12 +182,21 @@ fn findings_of<O: EndingsObserver>(
         nodes,
         confirmed,
         why,
+        owned,
     } = proposals;
     let reach = Reach {
         steps: settings.steps,
         nodes: settings.nodes,
     };
-    let others = others_than(guest, image, reach, &confirmed.endings, why, observer)?;
+    let others = others_than(
+        guest,
+        image,
+        reach,
+        &confirmed.endings,
+        why,
+        &owned,
+        observer,
+    )?;
     Ok(Findings {
         nodes,
         confirmed,
@@ -201,6 +211,8 @@ struct Proposals {
     confirmed: Confirmed,
     /// Why there may be other endings.
     why: Option<Why>,
+    /// The doublewords that one hart alone was seen to touch.
+    owned: Vec<OwnDoubleword>,
 }
 
 fn proposals_of<O: EndingsObserver>(
@@ -228,6 +240,7 @@ fn proposals_of<O: EndingsObserver>(
         } else {
             why
         },
+        owned: own_doublewords(guest.alloc, &search)?,
         confirmed,
     })
 }

@@ -10,7 +10,8 @@ ghost use Rattle.hart_ends.specs.Told.{bytes_told, ending_told, table_told};
 use crate::guest::{Guest, searched_ranges};
 use crate::searching::EndingsObserver;
 use all_checker::{
-    Bounds, Found, HartEnd as CheckedEnd, ListsObserver, Reason, TableEnding, find_all,
+    Bounds, Found, HartEnd as CheckedEnd, ListsObserver, OwnDoubleword, Reason, TableEnding,
+    find_all,
 };
 use elf_loader::Image;
 use endings_table::{FoundEnding, HartEnd, Others, Why};
@@ -44,7 +45,8 @@ impl<O: EndingsObserver> ListsObserver for Looking<'_, O> {
 }
 
 /// Whether a guest has other endings than these, of executions in which no hart does more than so many instructions. Where the search for
-/// them wasn't whole, there may be some for its reason. Where the checker finds one that isn't among them, the search has a fault.
+/// them wasn't whole, there may be some for its reason. Where the checker finds one that isn't among them, the search has a fault. It also saw
+/// one hart alone touch some doublewords, which spares the checker lists of stores.
 ///
 /// # Errors
 ///
@@ -55,6 +57,7 @@ pub(crate) fn others_than<O: EndingsObserver>(
     reach: Reach,
     endings: &[FoundEnding],
     why: Option<Why>,
+    owned: &[OwnDoubleword],
     observer: &mut O,
 ) -> Result<Others, OutOfMemory>
     requires few { guest.now.scripted.harts ≤ 64 }
@@ -78,7 +81,15 @@ pub(crate) fn others_than<O: EndingsObserver>(
         observer,
         endings: endings.len() as u64,
     };
-    match find_all(guest.alloc, &pages, &harts, &see, bounds, &mut looking)? {
+    match find_all(
+        guest.alloc,
+        &pages,
+        &harts,
+        &see,
+        owned,
+        bounds,
+        &mut looking,
+    )? {
         Found::All(table) => Ok(others_by(endings, &table)),
         Found::Unknown(Reason::Time) => Ok(Others::Possible(Why::Time)),
         Found::Unknown(_) => Ok(Others::Possible(Why::Unchecked)),

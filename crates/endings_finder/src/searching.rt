@@ -1,6 +1,8 @@
+use all_checker::OwnDoubleword;
 use all_search::{Omission, Search};
 use endings_table::Why;
 use pages::OutOfMemory;
+use std::alloc::Global;
 
 /// How many instructions are followed between two looks at the clock.
 const SLICE: u64 = 100_000;
@@ -54,6 +56,25 @@ pub(crate) fn search_through<O: EndingsObserver>(
 ) -> Result<Option<Why>, OutOfMemory> {
     let is_done = go_on(search, observer)?;
     Ok(why_others(search, is_done))
+}
+
+/// The doublewords that a search saw one hart alone touch.
+///
+/// # Errors
+///
+/// `OutOfMemory` alone.
+pub(crate) fn own_doublewords(
+    alloc: Global,
+    search: &Search<'_>,
+) -> Result<Vec<OwnDoubleword>, OutOfMemory> {
+    let mut owned = Vec::new(alloc);
+    for (number, hart) in &search.touched_by_one()? {
+        owned.push(OwnDoubleword {
+            number: *number,
+            hart: *hart,
+        })?;
+    }
+    Ok(owned)
 }
 
 /// Why there may be endings that a search hasn't found.
