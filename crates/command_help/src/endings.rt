@@ -1,8 +1,5 @@
 //! The texts of the subcommand that searches for all endings.
 
-/// What `all` does.
-pub static ALL_ABOUT: &str = "Searches through all executions for the ways that the program ends.";
-
 /// What `all --help` says after the options.
 pub static ALL_AFTER_HELP: &str = "\
 Only where the table says 'no others' are its endings all.

@@ -1,8 +1,5 @@
 //! The texts of the subcommands of executions.
 
-/// What `execution` does.
-pub static EXECUTION_ABOUT: &str = "Runs the program in IMAGE, and prints the run as an execution.";
-
 /// What `execution --help` says after the options.
 pub static EXECUTION_AFTER_HELP: &str = "\
 Examples:
@@ -22,9 +19,6 @@ dethart run --help says what a plan is, and what each error N means: a refusal
 is the line 'error N' on standard error, with the exit status 1.
 
 Exit status: 0 the execution was printed, 1 a refusal, 2 a bad command line.";
-
-/// What `check` does.
-pub static CHECK_ABOUT: &str = "Says whether the memory model RVWMO allows the execution in FILE.";
 
 /// What `check --help` says after the options.
 pub static CHECK_AFTER_HELP: &str = "\

@@ -1,8 +1,5 @@
 //! The texts of the subcommands that go over plans of a family.
 
-/// What `hunt` does.
-pub static HUNT_ABOUT: &str = "Runs the program in IMAGE by many plans, and prints how it ends.";
-
 /// What `hunt --help` says after the options.
 pub static HUNT_AFTER_HELP: &str = "\
 Examples:
@@ -70,10 +67,6 @@ or, as --fail-on says, 4:
   differ,bad  one of the two
   never   in no case, for slices of a hunt that dethart merge puts together";
 
-/// What `shrink` does.
-pub static SHRINK_ABOUT: &str =
-    "Looks for a smaller plan by which the program in IMAGE ends the same.";
-
 /// What `shrink --help` says after the options.
 pub static SHRINK_AFTER_HELP: &str = "\
 Example:
@@ -93,9 +86,6 @@ dethart run --help lists what each N means.
 
 Exit status: 0 the plan was printed, 1 a refusal, 2 a bad command line.";
 
-/// What `merge` does.
-pub static MERGE_ABOUT: &str = "Makes one table of endings of those in the files.";
-
 /// What `merge --help` says after the options.
 pub static MERGE_AFTER_HELP: &str = "\
 Example:
@@ -114,9 +104,6 @@ dethart run --help lists what each N means.
 
 Exit status: 1 a refusal, 2 a bad command line. Where the table was printed, 0
 or, as --fail-on says, 4: dethart hunt --help has the words.";
-
-/// What `compare` does.
-pub static COMPARE_ABOUT: &str = "Tells which endings only one of two tables has.";
 
 /// What `compare --help` says after the options.
 pub static COMPARE_AFTER_HELP: &str = "\
@@ -138,9 +125,6 @@ dethart run --help lists what each N means.
 
 Exit status: 0 both have the same endings, 1 a refusal, 2 a bad command line,
 4 an ending is lost or new.";
-
-/// What `plan` does.
-pub static PLAN_ABOUT: &str = "Prints plan N of the family that the seed stands for.";
 
 /// What `plan --help` says after the options.
 pub static PLAN_AFTER_HELP: &str = "\

@@ -1,8 +1,5 @@
 //! The texts of the subcommand that looks for missing fences.
 
-/// What `fences` does.
-pub static FENCES_ABOUT: &str = "Looks for missing fences; claims nothing of what isn't printed.";
-
 /// What `fences --help` says after the options.
 pub static FENCES_AFTER_HELP: &str = "\
 Where no fence is told to be missing, one may still be missing.

@@ -9,19 +9,29 @@ mod overview;
 mod recordings;
 mod runs;
 
-pub use endings::{ALL_ABOUT, ALL_AFTER_HELP};
-pub use executions::{CHECK_ABOUT, CHECK_AFTER_HELP, EXECUTION_ABOUT, EXECUTION_AFTER_HELP};
-pub use families::{
-    COMPARE_ABOUT, COMPARE_AFTER_HELP, HUNT_ABOUT, HUNT_AFTER_HELP, MERGE_ABOUT, MERGE_AFTER_HELP,
-    PLAN_ABOUT, PLAN_AFTER_HELP, SHRINK_ABOUT, SHRINK_AFTER_HELP,
-};
-pub use fences::{FENCES_ABOUT, FENCES_AFTER_HELP};
 pub use overview::{ABOUT, AFTER_HELP};
-pub use recordings::{
-    GDB_ABOUT, GDB_AFTER_HELP, MIGRATE_ABOUT, MIGRATE_AFTER_HELP, REPLAY_ABOUT, REPLAY_AFTER_HELP,
-    WATCH_ABOUT, WATCH_AFTER_HELP,
-};
-pub use runs::{
-    DRAW_ABOUT, DRAW_AFTER_HELP, ORDER_ABOUT, ORDER_AFTER_HELP, RECORD_ABOUT, RECORD_AFTER_HELP,
-    RUN_ABOUT, RUN_AFTER_HELP, TRACE_ABOUT, TRACE_AFTER_HELP,
-};
+
+/// What the help of the subcommand of a name says after its options.
+pub fn after_help_of<'a>(name: &str) -> &'a str {
+    match name {
+        "run" => runs::RUN_AFTER_HELP,
+        "order" => runs::ORDER_AFTER_HELP,
+        "record" => runs::RECORD_AFTER_HELP,
+        "replay" => recordings::REPLAY_AFTER_HELP,
+        "watch" => recordings::WATCH_AFTER_HELP,
+        "migrate" => recordings::MIGRATE_AFTER_HELP,
+        "gdb" => recordings::GDB_AFTER_HELP,
+        "hunt" => families::HUNT_AFTER_HELP,
+        "shrink" => families::SHRINK_AFTER_HELP,
+        "merge" => families::MERGE_AFTER_HELP,
+        "fences" => fences::FENCES_AFTER_HELP,
+        "all" => endings::ALL_AFTER_HELP,
+        "compare" => families::COMPARE_AFTER_HELP,
+        "plan" => families::PLAN_AFTER_HELP,
+        "draw" => runs::DRAW_AFTER_HELP,
+        "trace" => runs::TRACE_AFTER_HELP,
+        "execution" => executions::EXECUTION_AFTER_HELP,
+        "check" => executions::CHECK_AFTER_HELP,
+        _ => "",
+    }
+}

@@ -1,8 +1,5 @@
 //! The texts of the subcommands that read a recording, or an execution.
 
-/// What `replay` does.
-pub static REPLAY_ABOUT: &str = "Does the run in RECORDING again, and says whether it is the same.";
-
 /// What `replay --help` says after the options.
 pub static REPLAY_AFTER_HELP: &str = "\
 Examples:
@@ -48,10 +45,6 @@ Exit status: 0 the same, or what was asked for was printed, 1 a refusal, 2 a bad
 command line, 3 another run than the recorded one, or an execution that is
 refused.";
 
-/// What `watch` does.
-pub static WATCH_ABOUT: &str =
-    "Does the run in RECORDING again, and prints accesses to some bytes.";
-
 /// What `watch --help` says after the options.
 pub static WATCH_AFTER_HELP: &str = "\
 Examples:
@@ -82,9 +75,6 @@ dethart run --help lists what each N means.
 Exit status: 0 the accesses were printed, 1 a refusal, 2 a bad command line, 3
 an execution that is refused.";
 
-/// What `migrate` does.
-pub static MIGRATE_ABOUT: &str = "Writes the recording in RECORDING anew, in version 2, to OUT.";
-
 /// What `migrate --help` says after the options.
 pub static MIGRATE_AFTER_HELP: &str = "\
 Example:
@@ -97,9 +87,6 @@ A refusal is the line 'error N' on standard error, with the exit status 1;
 dethart run --help lists what each N means.
 
 Exit status: 0 the recording was written, 1 a refusal, 2 a bad command line.";
-
-/// What `gdb` does.
-pub static GDB_ABOUT: &str = "Serves gdb, which looks at the run or the execution in RECORDING.";
 
 /// What `gdb --help` says after the options.
 pub static GDB_AFTER_HELP: &str = "\

@@ -1,8 +1,5 @@
 //! The texts of the subcommands that run a guest program by one plan.
 
-/// What `run` does.
-pub static RUN_ABOUT: &str = "Runs the program in IMAGE, and prints the report.";
-
 /// What `run --help` says after the options.
 pub static RUN_AFTER_HELP: &str = "\
 Examples:
@@ -94,10 +91,6 @@ with another value than 0; what was asked for is printed then too. Where a
 hart runs on, standard error says with --strict, and with --show harts, which
 harts are found to run for ever under this plan ('hart H loops').";
 
-/// What `order` does.
-pub static ORDER_ABOUT: &str =
-    "Runs the program in IMAGE, and prints its memory operations in order.";
-
 /// What `order --help` says after the options.
 pub static ORDER_AFTER_HELP: &str = "\
 Example:
@@ -112,9 +105,6 @@ dethart run --help says what a plan is, and what each error N means: a refusal
 is the line 'error N' on standard error, with the exit status 1.
 
 Exit status: 0 the order was printed, 1 a refusal, 2 a bad command line.";
-
-/// What `record` does.
-pub static RECORD_ABOUT: &str = "Runs the program in IMAGE, and writes a recording to OUT.";
 
 /// What `record --help` says after the options.
 pub static RECORD_AFTER_HELP: &str = "\
@@ -133,9 +123,6 @@ dethart run --help says what a plan is, and what each error N means: a refusal
 is the line 'error N' on standard error, with the exit status 1.
 
 Exit status: 0 the recording was written, 1 a refusal, 2 a bad command line.";
-
-/// What `draw` does.
-pub static DRAW_ABOUT: &str = "Runs the program in IMAGE, and prints a picture of the run (SVG).";
 
 /// What `draw --help` says after the options.
 pub static DRAW_AFTER_HELP: &str = "\
@@ -163,10 +150,6 @@ is the line 'error N' on standard error, with the exit status 1.
 
 Exit status: 0 the picture was printed, 1 a refusal, 2 a bad command line, 3
 RVWMO doesn't allow the execution.";
-
-/// What `trace` does.
-pub static TRACE_ABOUT: &str =
-    "Runs the program in IMAGE, and prints its trace for a viewer of traces.";
 
 /// What `trace --help` says after the options.
 pub static TRACE_AFTER_HELP: &str = "\

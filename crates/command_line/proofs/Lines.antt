@@ -7,7 +7,8 @@ use Rattle.clap.specs.Kinds.{HasKind, Kinds, or_else}
 use Rattle.clap.specs.declared.error.Error.{Error}
 use Rattle.clap.specs.Walk.{answers_to, finished, nothing_held, rows_after, settled, walk, walk_from}
 use Rattle.clap.specs.Words.{App, Row, Text, subcommand_of}
-use Rattle.command_options.specs.Options.{IsSubcommand, dethart_app}
+use Rattle.command_options.specs.Options.{dethart_app, subcommands}
+use Rattle.command_line.specs.Names.{IsSubcommand}
 use Rattle.command_line.specs.Faults.{line_fault, word_fault}
 
 first_true : (a b : Bool) → (a && b) ≡ true → a ≡ true
@@ -22,6 +23,7 @@ second_empty [] b e = e
 second_empty (k ∷ ks) b e = cc
 
 wants_subcommand : (rows : List Row) (has : Bool) → check_fault (built dethart_app).top rows has ≡ [] → has ≡ true
+unfolding subcommands
 wants_subcommand rows true e = refl
 wants_subcommand rows false e = cc
 
@@ -68,6 +70,7 @@ takes_one words none =
     enters_one end.stopped (wants_subcommand (finished top.rules end.held) (is_some (entered (built dethart_app) end.stopped)) checking)
 
 pub is_known : (name : Text) → IsNameOf (built dethart_app).subs name → IsSubcommand name
+unfolding subcommands
 is_known name (inl e) = inl e
 is_known name (inr (inl e)) = inr (inl e)
 is_known name (inr (inr (inl e))) = inr (inr (inl e))

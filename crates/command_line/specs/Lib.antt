@@ -1,3 +1,4 @@
 pub mod Asking
 pub mod Faults
+pub mod Names
 pub mod Reading

@@ -1,12 +1,13 @@
 -- What a command line says, by the matches that clap has on it.
-use Rattle.std.specs.Prelude.{◌≡◌, ◌⊎◌, ◌^◌, ◌&&◌, ◌||◌, ℕ, Bool, true, false, List, [], ◌∷◌, Option, Some, None}
-use Rattle.std.specs.Prelude.{if◌then◌else◌, nat_eq, nat_lt, not, codes, drop, length, is_some, map, option_and_then, option_map, unwrap_or}
+use Rattle.std.specs.Prelude.{◌≡◌, ◌^◌, ◌&&◌, ◌||◌, ℕ, Bool, true, false, List, [], ◌∷◌, Option, Some, None}
+use Rattle.std.specs.Prelude.{if◌then◌else◌, nat_eq, nat_lt, not, codes, drop, find, length, map, option_and_then, option_map, unwrap_or}
 use Rattle.std.specs.List.{list_all, starts_with}
-use Rattle.std.specs.Option.{option_map_or}
 use Rattle.std.specs.Str.{bytes_eq}
 use Rattle.std.specs.Char.{digit_value}
 use Rattle.std.specs.Str.Parse.{digits_value, without_leading_plus}
 use Rattle.clap.specs.Words.{Row, Text, all_of, first_of, one_of}
+use Rattle.clap.specs.declared.parser.matches.ValueSource.{ValueSource}
+use Rattle.clap.specs.declared.parser.matches.ValueSource.TheVariants.{CommandLine}
 use Rattle.command_line.specs.declared.settings.Command.{Command}
 use Rattle.command_line.specs.declared.settings.Command.TheVariants as command
 use Rattle.command_line.specs.declared.settings.AllEndings.{AllEndings}
@@ -68,25 +69,38 @@ address_in text = if starts_with nat_eq text (codes "0x") then number_in 64 16 (
     else if has_leading_zero text then None
     else number_in 64 10 text
 
--- the number of 32 bits that the text is, and the default where there is none
-abbrev pub number_or : ℕ → Option Text → ℕ
-number_or default text = unwrap_or (number_given 32 text) default
-
--- the same of 64 bits
-abbrev pub wide_number_or : ℕ → Option Text → ℕ
-wide_number_or default text = unwrap_or (number_given 64 text) default
-
 -- the address that the text is has no `0x` before it, and so is in decimal
 abbrev pub is_decimal : Text → Bool
 is_decimal text = not (starts_with nat_eq text (codes "0x"))
 
--- what `watch` is given as ADDRESS
-abbrev pub address_given : List Row → Option ℕ
-address_given rows = option_and_then address_in (first_of (codes "address") rows)
+-- ---- what clap states for an argument or option, by its name
 
--- it is in decimal
-abbrev pub address_is_decimal : List Row → Bool
-address_is_decimal rows = option_map_or is_decimal (first_of (codes "address") rows) false
+-- where its text is from
+abbrev pub source_of : Text → List Row → Option ValueSource
+source_of id rows = option_and_then (λ r. r.source) (find (λ r. bytes_eq r.id id) rows)
+
+abbrev pub is_from_line : Option ValueSource → Bool
+is_from_line (Some CommandLine) = true
+is_from_line source = false
+
+-- the line itself gives it
+abbrev pub is_given : Text → List Row → Bool
+is_given id rows = is_from_line (source_of id rows)
+
+-- its text: that of the line, or the default; where there is neither, none
+abbrev pub text_at : Text → List Row → Text
+text_at id rows = unwrap_or (first_of id rows) []
+
+-- the line has the flag
+abbrev pub is_set : Text → List Row → Bool
+is_set id rows = bytes_eq (text_at id rows) (codes "true")
+
+-- its number of so many bits, if it has one, and 0 where it has none
+abbrev pub number_at : ℕ → Text → List Row → Option ℕ
+number_at bits id rows = number_given bits (one_of id rows)
+
+abbrev pub number_of : ℕ → Text → List Row → ℕ
+number_of bits id rows = unwrap_or (number_at bits id rows) 0
 
 -- all texts of the argument or option, in the order of the line
 abbrev pub texts_given : Text → List Row → List Text
@@ -116,10 +130,6 @@ shown_in text = if bytes_eq text (codes "report") then Some shown.Report
     else if bytes_eq text (codes "output") then Some shown.Output
     else if bytes_eq text (codes "harts") then Some shown.Harts else None
 
--- what `run` is given after --show
-abbrev pub shown_given : List Row → Option Shown
-shown_given rows = option_and_then shown_in (first_of (codes "show") rows)
-
 -- the words after --fail-on, joined by a comma, say which endings give another exit status
 abbrev pub fail_on_in : Text → Option FailOn
 fail_on_in text = if bytes_eq text (codes "differ") then Some fail_on.Differ
@@ -132,81 +142,60 @@ abbrev pub until_in : Text → Option HuntUntil
 until_in text = if bytes_eq text (codes "bad") then Some until.Bad
     else if bytes_eq text (codes "differ") then Some until.Differ else None
 
--- what `hunt` is given after --until
-abbrev pub until_given : List Row → Option HuntUntil
-until_given rows = option_and_then until_in (first_of (codes "until") rows)
-
--- what `hunt` is given after --fail-on
-abbrev pub fail_on_given : List Row → Option FailOn
-fail_on_given rows = option_and_then fail_on_in (first_of (codes "fail-on") rows)
-
 -- the word after --fail-on says which tables of missing fences give another exit status
 abbrev pub fences_fail_on_in : Text → Option FencesFailOn
 fences_fail_on_in text = if bytes_eq text (codes "missing") then Some fences_fail_on.Missing
     else if bytes_eq text (codes "never") then Some fences_fail_on.Never else None
 
--- what `fences` is given after --fail-on
-abbrev pub fences_fail_on_given : List Row → Option FencesFailOn
-fences_fail_on_given rows = option_and_then fences_fail_on_in (first_of (codes "fail-on") rows)
-
 -- the word after --until says that a search ends with a missing fence
 abbrev pub is_until_missing : Text → Bool
 is_until_missing text = bytes_eq text (codes "missing")
 
--- `fences` is given this word
-abbrev pub until_missing_given : List Row → Bool
-until_missing_given rows = option_map_or is_until_missing (first_of (codes "until") rows) false
+-- which endings `hunt` and `merge` are given after --fail-on
+abbrev pub fail_on_at : List Row → FailOn
+fail_on_at rows = unwrap_or (fail_on_in (text_at (codes "fail-on") rows)) fail_on.Either
 
--- the line gives the option
-abbrev pub is_given : Text → List Row → Bool
-is_given id rows = is_some (first_of id rows)
-
--- the line has the flag
-abbrev pub is_set : Text → List Row → Bool
-is_set name rows = option_map_or (λ text. bytes_eq text (codes "true")) (first_of name rows) false
-
--- the flag is set where the text that clap states for it is `true`
-abbrev pub HoldsFlag : Option Text → Bool → Type 0
-HoldsFlag text flag = (text ≡ Some (codes "true") → flag ≡ true)
-    × (text ≡ Some (codes "false") → flag ≡ false) × (text ≡ None → flag ≡ false)
+-- `watch` is given ADDRESS, and in decimal
+abbrev pub address_is_decimal : List Row → Bool
+address_is_decimal rows = is_given (codes "address") rows && is_decimal (text_at (codes "address") rows)
 
 -- each value is the one that clap states for its name
-pub record HoldsProgram (default_rounds : ℕ) (rows : List Row) (program : Program) : Type 0 where
-  pub image : program.image.now ≡ unwrap_or (first_of (codes "image") rows) []
-  pub flat : HoldsFlag (one_of (codes "flat") rows) program.flat
-  pub spurious : HoldsFlag (one_of (codes "spurious") rows) program.spurious
-  pub harts : program.harts ≡ number_or 1 (one_of (codes "harts") rows)
-  pub pages : program.pages ≡ number_or 256 (one_of (codes "pages") rows)
-  pub rounds : program.rounds ≡ number_or default_rounds (one_of (codes "rounds") rows)
-  pub workers : program.workers ≡ number_or 4 (one_of (codes "workers") rows)
+pub record HoldsProgram (rows : List Row) (program : Program) : Type 0 where
+  pub image : program.image.now ≡ text_at (codes "image") rows
+  pub flat : program.flat ≡ is_set (codes "flat") rows
+  pub spurious : program.spurious ≡ is_set (codes "spurious") rows
+  pub harts : program.harts ≡ number_of 32 (codes "harts") rows
+  pub pages : program.pages ≡ number_of 32 (codes "pages") rows
+  pub rounds : program.rounds ≡ number_of 32 (codes "rounds") rows
+  pub workers : program.workers ≡ number_of 32 (codes "workers") rows
   pub input : option_map (λ s. s.now) program.input ≡ first_of (codes "input") rows
-  pub progress : HoldsFlag (one_of (codes "progress") rows) program.progress
+  pub progress : program.progress ≡ is_set (codes "progress") rows
 
 -- the line gives a row of quotas, and a file that has the plan
 abbrev pub quota_is_unread : List Row → Bool
 quota_is_unread rows = is_given (codes "quota") rows && is_given (codes "plan") rows
 
 pub record HoldsPlanChoice (rows : List Row) (plan : PlanChoice) : Type 0 where
-  pub quota : plan.quota.now ≡ unwrap_or (first_of (codes "quota") rows) (codes "1000")
+  pub quota : plan.quota.now ≡ text_at (codes "quota") rows
   pub file : option_map (λ s. s.now) plan.file ≡ first_of (codes "plan") rows
-  pub budget : plan.budget ≡ number_or 1 (one_of (codes "budget") rows)
-  pub number : plan.number ≡ number_given 32 (one_of (codes "plan-number") rows)
-  pub seed : plan.seed ≡ wide_number_or 1 (one_of (codes "seed") rows)
+  pub budget : plan.budget ≡ number_of 32 (codes "budget") rows
+  pub number : plan.number ≡ number_at 32 (codes "plan-number") rows
+  pub seed : plan.seed ≡ number_of 64 (codes "seed") rows
   pub quota_is_unread : plan.quota_is_unread ≡ quota_is_unread rows
 
 abbrev pub HoldsRun : List Row → Run → Type 0
-HoldsRun rows run = HoldsProgram 1000 rows run.program × HoldsPlanChoice rows run.plan
+HoldsRun rows run = HoldsProgram rows run.program × HoldsPlanChoice rows run.plan
 
 pub record HoldsPrint (rows : List Row) (print : Print) : Type 0 where
   pub run : HoldsRun rows print.run
-  pub show : print.show ≡ unwrap_or (shown_given rows) shown.Report
-  pub no_trace : HoldsFlag (one_of (codes "no-trace") rows) print.no_trace
-  pub strict : HoldsFlag (one_of (codes "strict") rows) print.strict
+  pub show : print.show ≡ unwrap_or (shown_in (text_at (codes "show") rows)) shown.Report
+  pub no_trace : print.no_trace ≡ is_set (codes "no-trace") rows
+  pub strict : print.strict ≡ is_set (codes "strict") rows
 
 pub record HoldsRecord (rows : List Row) (r : Record) : Type 0 where
   pub run : HoldsRun rows r.run
-  pub out : r.out.now ≡ unwrap_or (first_of (codes "out") rows) []
-  pub every : r.every ≡ number_or 0 (one_of (codes "every") rows)
+  pub out : r.out.now ≡ text_at (codes "out") rows
+  pub every : r.every ≡ number_of 32 (codes "every") rows
   pub until_stopped : r.until_stopped ≡ is_set (codes "until-stopped") rows
 
 -- `replay` is asked of a hart
@@ -218,110 +207,110 @@ abbrev pub is_unread : Text → List Row → Bool
 is_unread id rows = is_given id rows && not (asks_of_a_hart rows)
 
 pub record HoldsReplay (rows : List Row) (replay : Replay) : Type 0 where
-  pub recording : replay.recording.now ≡ unwrap_or (first_of (codes "recording") rows) []
-  pub workers : replay.workers ≡ number_or 4 (one_of (codes "workers") rows)
-  pub round : replay.round ≡ number_given 32 (one_of (codes "round") rows)
-  pub hart : replay.hart ≡ number_or 0 (one_of (codes "hart") rows)
-  pub count : replay.count ≡ wide_number_or 0 (one_of (codes "count") rows)
+  pub recording : replay.recording.now ≡ text_at (codes "recording") rows
+  pub workers : replay.workers ≡ number_of 32 (codes "workers") rows
+  pub round : replay.round ≡ number_at 32 (codes "round") rows
+  pub hart : replay.hart ≡ number_of 32 (codes "hart") rows
+  pub count : replay.count ≡ number_of 64 (codes "count") rows
   pub how_many : replay.how_many ≡ is_set (codes "how-many") rows
-  pub place : replay.place ≡ number_given 64 (one_of (codes "place") rows)
+  pub place : replay.place ≡ number_at 64 (codes "place") rows
   pub seen : replay.seen.items ≡ map bytes_of (seen_given rows)
   pub objects : map (λ s. s.now) replay.objects.items ≡ texts_given (codes "see-object") rows
-  pub every : replay.every ≡ number_or 64 (one_of (codes "every") rows)
-  pub progress : HoldsFlag (one_of (codes "progress") rows) replay.progress
+  pub every : replay.every ≡ number_of 32 (codes "every") rows
+  pub progress : replay.progress ≡ is_set (codes "progress") rows
   pub hart_is_unread : replay.hart_is_unread ≡ is_unread (codes "hart") rows
   pub count_is_unread : replay.count_is_unread ≡ is_unread (codes "count") rows
   pub seen_is_unread : replay.seen_is_unread ≡ is_unread (codes "see") rows
   pub object_is_unread : replay.object_is_unread ≡ is_unread (codes "see-object") rows
 
 pub record HoldsWatch (rows : List Row) (watch : Watch) : Type 0 where
-  pub recording : watch.recording.now ≡ unwrap_or (first_of (codes "recording") rows) []
-  pub address : watch.address ≡ address_given rows
+  pub recording : watch.recording.now ≡ text_at (codes "recording") rows
+  pub address : watch.address ≡ address_in (text_at (codes "address") rows)
   pub is_decimal : watch.is_decimal ≡ address_is_decimal rows
-  pub length : watch.length ≡ wide_number_or 0 (one_of (codes "length") rows)
+  pub length : watch.length ≡ number_of 64 (codes "length") rows
   pub more : watch.more.items ≡ map bytes_of (seen_given rows)
   pub objects : map (λ s. s.now) watch.objects.items ≡ texts_given (codes "see-object") rows
-  pub hart : watch.hart ≡ number_given 32 (one_of (codes "hart") rows)
+  pub hart : watch.hart ≡ number_at 32 (codes "hart") rows
   pub stores : watch.stores ≡ is_set (codes "stores") rows
   pub pc : watch.pc ≡ is_set (codes "pc") rows
-  pub from : watch.from ≡ number_given 32 (one_of (codes "from") rows)
-  pub to : watch.to ≡ number_given 32 (one_of (codes "to") rows)
-  pub workers : watch.workers ≡ number_or 4 (one_of (codes "workers") rows)
-  pub progress : HoldsFlag (one_of (codes "progress") rows) watch.progress
+  pub from : watch.from ≡ number_at 32 (codes "from") rows
+  pub to : watch.to ≡ number_at 32 (codes "to") rows
+  pub workers : watch.workers ≡ number_of 32 (codes "workers") rows
+  pub progress : watch.progress ≡ is_set (codes "progress") rows
 
 pub record HoldsMigrate (rows : List Row) (migrate : Migrate) : Type 0 where
-  pub recording : migrate.recording.now ≡ unwrap_or (first_of (codes "recording") rows) []
-  pub out : migrate.out.now ≡ unwrap_or (first_of (codes "out") rows) []
+  pub recording : migrate.recording.now ≡ text_at (codes "recording") rows
+  pub out : migrate.out.now ≡ text_at (codes "out") rows
 
 pub record HoldsGdb (rows : List Row) (gdb : Gdb) : Type 0 where
-  pub recording : gdb.recording.now ≡ unwrap_or (first_of (codes "recording") rows) []
+  pub recording : gdb.recording.now ≡ text_at (codes "recording") rows
 
 pub record HoldsSearch (rows : List Row) (search : Search) : Type 0 where
-  pub program : HoldsProgram 10000 rows search.program
-  pub seed : search.seed ≡ wide_number_or 1 (one_of (codes "seed") rows)
+  pub program : HoldsProgram rows search.program
+  pub seed : search.seed ≡ number_of 64 (codes "seed") rows
   pub seen : search.seen.items ≡ map bytes_of (seen_given rows)
   pub objects : map (λ s. s.now) search.objects.items ≡ texts_given (codes "see-object") rows
 
 pub record HoldsHunt (rows : List Row) (hunt : Hunt) : Type 0 where
   pub search : HoldsSearch rows hunt.search
-  pub plans : hunt.plans ≡ number_or 1000 (one_of (codes "plans") rows)
-  pub first : hunt.first ≡ number_or 0 (one_of (codes "first") rows)
-  pub fail_on : hunt.fail_on ≡ unwrap_or (fail_on_given rows) fail_on.Either
-  pub until : hunt.until ≡ until_given rows
-  pub seconds : hunt.seconds ≡ number_given 32 (one_of (codes "seconds") rows)
+  pub plans : hunt.plans ≡ number_of 32 (codes "plans") rows
+  pub first : hunt.first ≡ number_of 32 (codes "first") rows
+  pub fail_on : hunt.fail_on ≡ fail_on_at rows
+  pub until : hunt.until ≡ until_in (text_at (codes "until") rows)
+  pub seconds : hunt.seconds ≡ number_at 32 (codes "seconds") rows
   pub weak : hunt.weak ≡ is_set (codes "weak") rows
-  pub steps : hunt.steps ≡ number_or 100000000 (one_of (codes "steps") rows)
+  pub steps : hunt.steps ≡ number_of 32 (codes "steps") rows
 
 pub record HoldsFences (rows : List Row) (fences : Fences) : Type 0 where
   pub search : HoldsSearch rows fences.search
-  pub plans : fences.plans ≡ number_or 1000 (one_of (codes "plans") rows)
-  pub first : fences.first ≡ number_or 0 (one_of (codes "first") rows)
-  pub steps : fences.steps ≡ number_or 100000000 (one_of (codes "steps") rows)
-  pub fail_on : fences.fail_on ≡ unwrap_or (fences_fail_on_given rows) fences_fail_on.Missing
-  pub until_missing : fences.until_missing ≡ until_missing_given rows
-  pub seconds : fences.seconds ≡ number_given 32 (one_of (codes "seconds") rows)
+  pub plans : fences.plans ≡ number_of 32 (codes "plans") rows
+  pub first : fences.first ≡ number_of 32 (codes "first") rows
+  pub steps : fences.steps ≡ number_of 32 (codes "steps") rows
+  pub fail_on : fences.fail_on ≡ unwrap_or (fences_fail_on_in (text_at (codes "fail-on") rows)) fences_fail_on.Missing
+  pub until_missing : fences.until_missing ≡ is_until_missing (text_at (codes "until") rows)
+  pub seconds : fences.seconds ≡ number_at 32 (codes "seconds") rows
   pub keep : option_map (λ s. s.now) fences.keep ≡ first_of (codes "keep") rows
   pub accept : option_map (λ s. s.now) fences.accept ≡ first_of (codes "accept") rows
   pub as_if_fence : map (λ s. s.now) fences.as_if_fence.items ≡ texts_given (codes "as-if-fence") rows
 
 pub record HoldsAll (rows : List Row) (all : AllEndings) : Type 0 where
   pub search : HoldsSearch rows all.search
-  pub steps : all.steps ≡ number_or 1000 (one_of (codes "steps") rows)
-  pub nodes : all.nodes ≡ number_or 100000 (one_of (codes "nodes") rows)
-  pub seconds : all.seconds ≡ number_given 32 (one_of (codes "seconds") rows)
+  pub steps : all.steps ≡ number_of 32 (codes "steps") rows
+  pub nodes : all.nodes ≡ number_of 32 (codes "nodes") rows
+  pub seconds : all.seconds ≡ number_at 32 (codes "seconds") rows
   pub keep : option_map (λ s. s.now) all.keep ≡ first_of (codes "keep") rows
 
 pub record HoldsShrink (rows : List Row) (shrink : Shrink) : Type 0 where
   pub search : HoldsSearch rows shrink.search
-  pub plan_number : shrink.plan_number ≡ number_or 0 (one_of (codes "plan-number") rows)
+  pub plan_number : shrink.plan_number ≡ number_of 32 (codes "plan-number") rows
 
 pub record HoldsMerge (rows : List Row) (merge : Merge) : Type 0 where
   pub tables : map (λ s. s.now) merge.tables.items ≡ texts_given (codes "table") rows
-  pub fail_on : merge.fail_on ≡ unwrap_or (fail_on_given rows) fail_on.Either
+  pub fail_on : merge.fail_on ≡ fail_on_at rows
 
 pub record HoldsCompare (rows : List Row) (compare : Compare) : Type 0 where
-  pub old : compare.old.now ≡ unwrap_or (first_of (codes "old") rows) []
-  pub new : compare.new.now ≡ unwrap_or (first_of (codes "new") rows) []
+  pub old : compare.old.now ≡ text_at (codes "old") rows
+  pub new : compare.new.now ≡ text_at (codes "new") rows
 
 pub record HoldsPlan (rows : List Row) (plan : Plan) : Type 0 where
-  pub number : plan.number ≡ number_or 0 (one_of (codes "number") rows)
-  pub harts : plan.harts ≡ number_or 1 (one_of (codes "harts") rows)
-  pub seed : plan.seed ≡ wide_number_or 1 (one_of (codes "seed") rows)
+  pub number : plan.number ≡ number_of 32 (codes "number") rows
+  pub harts : plan.harts ≡ number_of 32 (codes "harts") rows
+  pub seed : plan.seed ≡ number_of 64 (codes "seed") rows
 
 pub record HoldsDraw (rows : List Row) (draw : Draw) : Type 0 where
   pub run : HoldsRun rows draw.run
   pub seen : draw.seen.items ≡ map bytes_of (seen_given rows)
   pub objects : map (λ s. s.now) draw.objects.items ≡ texts_given (codes "see-object") rows
-  pub from : draw.from ≡ number_given 32 (one_of (codes "from") rows)
-  pub to : draw.to ≡ number_given 32 (one_of (codes "to") rows)
+  pub from : draw.from ≡ number_at 32 (codes "from") rows
+  pub to : draw.to ≡ number_at 32 (codes "to") rows
 
 pub record HoldsExecution (rows : List Row) (execution : Execution) : Type 0 where
   pub run : HoldsRun rows execution.run
   pub weak : execution.weak ≡ is_set (codes "weak") rows
-  pub steps : execution.steps ≡ number_or 100000000 (one_of (codes "steps") rows)
+  pub steps : execution.steps ≡ number_of 32 (codes "steps") rows
 
 pub record HoldsCheck (rows : List Row) (check : Check) : Type 0 where
-  pub file : check.file.now ≡ unwrap_or (first_of (codes "file") rows) []
+  pub file : check.file.now ≡ text_at (codes "file") rows
 
 -- the line is of the subcommand of that name, and holds its values
 abbrev pub HoldsNamed : Text → List Row → Command → Type 0

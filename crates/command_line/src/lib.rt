@@ -3,16 +3,13 @@
 
 mod asking;
 mod contradictions;
-mod endings;
-mod families;
-mod fences;
 mod given;
 mod numbers;
 mod parsing;
-mod runs;
-mod seen;
+mod readers;
 mod settings;
 mod usages;
+mod words;
 
 pub use asking::asked_by_options;
 pub use numbers::address_in;

@@ -1,38 +1,7 @@
-//! The numbers that texts and options are.
+//! The numbers that texts are.
 ghost use Rattle.std.specs.Prelude.{◌≡◌, ◌≤◌};
 ghost use Rattle.std.specs.Str.Parse.{without_leading_plus};
-ghost use Rattle.clap.specs.Words.{found_of, one_text};
-ghost use Rattle.command_line.specs.Reading.{address_in, has_leading_zero, is_decimal, number_given, number_in, number_or, wide_number_or};
-
-use clap::ArgMatches;
-
-/// The number of the option `id`.
-pub(crate) fn number_of(matches: &ArgMatches<'_>, id: &str, default: u32) -> u32
-    ensures { result ≡ number_or default (one_text (found_of matches.now) id.now) }
-{
-    number_given(matches, id).unwrap_or(default)
-}
-
-/// The number of the option `id`, if it has one.
-pub(crate) fn number_given(matches: &ArgMatches<'_>, id: &str) -> Option<u32>
-    ensures { result ≡ number_given 32 (one_text (found_of matches.now) id.now) }
-{
-    matches.get_one::<u32>(id)
-}
-
-/// The same of 64 bits.
-pub(crate) fn wide_given(matches: &ArgMatches<'_>, id: &str) -> Option<u64>
-    ensures { result ≡ number_given 64 (one_text (found_of matches.now) id.now) }
-{
-    matches.get_one::<u64>(id)
-}
-
-/// The number of 64 bits of the option `id`.
-pub(crate) fn wide_number_of(matches: &ArgMatches<'_>, id: &str, default: u64) -> u64
-    ensures { result ≡ wide_number_or default (one_text (found_of matches.now) id.now) }
-{
-    wide_given(matches, id).unwrap_or(default)
-}
+ghost use Rattle.command_line.specs.Reading.{address_in, has_leading_zero, is_decimal, number_in};
 
 /// The address that the text is: in hexadecimal after `0x`, and else in decimal without leading zeros, since an address that
 /// is printed begins with them and is hexadecimal.

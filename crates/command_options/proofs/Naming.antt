@@ -1,7 +1,8 @@
 -- The command with one subcommand reads a line that names it as the command with all of them does.
-use Rattle.std.proofs.Common.{◌≡◌, ◌≤◌, ◌∙◌, inl, inr, ℕ, Some, List, [], ◌∷◌, ◌++◌, Bor, Result, ap, ap₂, arith, false, fold, get_or, is_some, length, map, refl, subst, sym}
+use Rattle.std.proofs.Common.{◌≡◌, ◌≤◌, ◌∙◌, Bool, Option, ℕ, Some, cond, unwrap_or, List, [], ◌∷◌, ◌++◌, Bor, Result, ap, ap₂, arith, false, fold, get_or, is_some, length, map, refl, subst, sym}
 use Rattle.std.proofs.lemmas.Result.{IfOk-weaker}
-use Rattle.std.specs.Prelude.{IfOk, codes, true}
+use Rattle.std.proofs.lemmas.Slice.Eq.{bytes_eq-Decides}
+use Rattle.std.specs.Prelude.{IfOk, find, true}
 use mathlib.Core.List.{append-nil, append_assoc}
 use Rattle.clap.specs.Faults.{built_fault, check_fault, defaults_fault, entered_fault, settle_fault, turn_fault, walk_fault}
 use Rattle.clap.specs.Kinds.{Kinds, or_else}
@@ -9,7 +10,8 @@ use Rattle.clap.specs.Simple.{Shape, built, entered, names_of}
 use Rattle.clap.specs.Walk.{Names, Walk, finished, idle, nothing_held, settled, walk, walk_from, walked}
 use Rattle.clap.specs.Words.{App, Rule, Text, app_of, is_simple_and_free}
 use Rattle.clap.specs.declared.builder.command.Command.{Command}
-use Rattle.command_options.specs.Options.{IsSubcommand, ReadsAsAll, bare_app, dethart_app, named_app, with_commands}
+use Rattle.command_options.specs.Options.{ReadsAsAll, Subcommand, bare_app, dethart_app, named, subcommands, with_subcommands}
+use Rattle.std.specs.Str.{bytes_eq}
 
 -- ---- a walk that met a subcommand before any option
 
@@ -48,130 +50,120 @@ faults_met a name rest meets = ap₂ (refuses a) (faults_on a name rest meets) (
 
 -- ---- each of the subcommands
 
-abbrev one : Text → App
-one name = with_commands bare_app (named_app name ∷ [])
+abbrev pub one : Subcommand → App
+one s = with_subcommands bare_app (s ∷ [])
 
 -- the command with this subcommand alone, and the one with all, meet it, enter it and refuse words alike
-record Alike (name : Text) : Type 0 where
-  meets : Meets (built (one name)) name
-  meets_all : Meets (built dethart_app) name
-  simple : is_simple_and_free (one name) ≡ true
-  entered : (rest : List Text) → entered (built (one name)) (Some (name, rest)) ≡ entered (built dethart_app) (Some (name, rest))
-  refused : (rest : List Text) → refuses (built (one name)) [] (met name rest) ≡ refuses (built dethart_app) [] (met name rest)
+pub record Alike (s : Subcommand) : Type 0 where
+  meets : Meets (built (one s)) s.0.now
+  meets_all : Meets (built dethart_app) s.0.now
+  simple : is_simple_and_free (one s) ≡ true
+  entered : (rest : List Text) → entered (built (one s)) (Some (s.0.now, rest)) ≡ entered (built dethart_app) (Some (s.0.now, rest))
+  refused : (rest : List Text) → refuses (built (one s)) [] (met s.0.now rest) ≡ refuses (built dethart_app) [] (met s.0.now rest)
 
-abbrev Reads : Text → List Text → Text → Type 0
-Reads program rest name = ReadsAsAll (program ∷ name ∷ rest) (one name)
-
-reads : (program name : Text) (rest : List Text) → Alike name → Reads program rest name
-reads program name rest alike = record {
+reads : (program : Text) (s : Subcommand) (rest : List Text) → Alike s → ReadsAsAll (program ∷ s.0.now ∷ rest) (one s)
+unfolding subcommands
+reads program s rest alike = record {
   simple = alike.simple;
-  subcommand = ap (λ w. entered (built (one name)) w.stopped) (walks_on (built (one name)) name rest alike.meets)
-      ∙ (alike.entered rest ∙ sym (ap (λ w. entered (built dethart_app) w.stopped) (walks_on (built dethart_app) name rest alike.meets_all)));
-  fault = faults_met (built (one name)) name rest alike.meets ∙ (alike.refused rest ∙ sym (faults_met (built dethart_app) name rest alike.meets_all));
+  subcommand = ap (λ w. entered (built (one s)) w.stopped) (walks_on (built (one s)) s.0.now rest alike.meets)
+      ∙ (alike.entered rest ∙ sym (ap (λ w. entered (built dethart_app) w.stopped) (walks_on (built dethart_app) s.0.now rest alike.meets_all)));
+  fault = faults_met (built (one s)) s.0.now rest alike.meets ∙ (alike.refused rest ∙ sym (faults_met (built dethart_app) s.0.now rest alike.meets_all));
 }
 
-run_alike : Alike (codes "run")
-unfolding walked
-run_alike = record { meets = record { walks = refl; faults = refl }; meets_all = record { walks = refl; faults = refl }; simple = refl; entered = λ rest. refl; refused = λ rest. refl }
+abbrev pub EachAlike : List Subcommand → Type 0
+EachAlike [] = Unit
+EachAlike (s ∷ rest) = Alike s × EachAlike rest
 
-order_alike : Alike (codes "order")
-unfolding walked
-order_alike = record { meets = record { walks = refl; faults = refl }; meets_all = record { walks = refl; faults = refl }; simple = refl; entered = λ rest. refl; refused = λ rest. refl }
+each_alike : EachAlike subcommands
+unfolding walked subcommands
+each_alike = (
+  record { meets = record { walks = refl; faults = refl }; meets_all = record { walks = refl; faults = refl }; simple = refl; entered = λ rest. refl; refused = λ rest. refl },
+  (
+    record { meets = record { walks = refl; faults = refl }; meets_all = record { walks = refl; faults = refl }; simple = refl; entered = λ rest. refl; refused = λ rest. refl },
+    (
+      record { meets = record { walks = refl; faults = refl }; meets_all = record { walks = refl; faults = refl }; simple = refl; entered = λ rest. refl; refused = λ rest. refl },
+      (
+        record { meets = record { walks = refl; faults = refl }; meets_all = record { walks = refl; faults = refl }; simple = refl; entered = λ rest. refl; refused = λ rest. refl },
+        (
+          record { meets = record { walks = refl; faults = refl }; meets_all = record { walks = refl; faults = refl }; simple = refl; entered = λ rest. refl; refused = λ rest. refl },
+          (
+            record { meets = record { walks = refl; faults = refl }; meets_all = record { walks = refl; faults = refl }; simple = refl; entered = λ rest. refl; refused = λ rest. refl },
+            (
+              record { meets = record { walks = refl; faults = refl }; meets_all = record { walks = refl; faults = refl }; simple = refl; entered = λ rest. refl; refused = λ rest. refl },
+              (
+                record { meets = record { walks = refl; faults = refl }; meets_all = record { walks = refl; faults = refl }; simple = refl; entered = λ rest. refl; refused = λ rest. refl },
+                (
+                  record { meets = record { walks = refl; faults = refl }; meets_all = record { walks = refl; faults = refl }; simple = refl; entered = λ rest. refl; refused = λ rest. refl },
+                  (
+                    record { meets = record { walks = refl; faults = refl }; meets_all = record { walks = refl; faults = refl }; simple = refl; entered = λ rest. refl; refused = λ rest. refl },
+                    (
+                      record { meets = record { walks = refl; faults = refl }; meets_all = record { walks = refl; faults = refl }; simple = refl; entered = λ rest. refl; refused = λ rest. refl },
+                      (
+                        record { meets = record { walks = refl; faults = refl }; meets_all = record { walks = refl; faults = refl }; simple = refl; entered = λ rest. refl; refused = λ rest. refl },
+                        (
+                          record { meets = record { walks = refl; faults = refl }; meets_all = record { walks = refl; faults = refl }; simple = refl; entered = λ rest. refl; refused = λ rest. refl },
+                          (
+                            record { meets = record { walks = refl; faults = refl }; meets_all = record { walks = refl; faults = refl }; simple = refl; entered = λ rest. refl; refused = λ rest. refl },
+                            (
+                              record { meets = record { walks = refl; faults = refl }; meets_all = record { walks = refl; faults = refl }; simple = refl; entered = λ rest. refl; refused = λ rest. refl },
+                              (
+                                record { meets = record { walks = refl; faults = refl }; meets_all = record { walks = refl; faults = refl }; simple = refl; entered = λ rest. refl; refused = λ rest. refl },
+                                (
+                                  record { meets = record { walks = refl; faults = refl }; meets_all = record { walks = refl; faults = refl }; simple = refl; entered = λ rest. refl; refused = λ rest. refl },
+                                  (
+                                    record { meets = record { walks = refl; faults = refl }; meets_all = record { walks = refl; faults = refl }; simple = refl; entered = λ rest. refl; refused = λ rest. refl },
+                                    tt,
+                                  ),
+                                ),
+                              ),
+                            ),
+                          ),
+                        ),
+                      ),
+                    ),
+                  ),
+                ),
+              ),
+            ),
+          ),
+        ),
+      ),
+    ),
+  ),
+)
 
-record_alike : Alike (codes "record")
-unfolding walked
-record_alike = record { meets = record { walks = refl; faults = refl }; meets_all = record { walks = refl; faults = refl }; simple = refl; entered = λ rest. refl; refused = λ rest. refl }
+some_is : {X : Type 0} (x y : X) → Some x ≡ Some y → x ≡ y
+some_is x y e = ap (λ o. unwrap_or o x) e
 
-replay_alike : Alike (codes "replay")
-unfolding walked
-replay_alike = record { meets = record { walks = refl; faults = refl }; meets_all = record { walks = refl; faults = refl }; simple = refl; entered = λ rest. refl; refused = λ rest. refl }
+-- the first of a name is like all
+abbrev Found : Text → Subcommand → Type 0
+Found name s = (name ≡ s.0.now) × Alike s
 
-watch_alike : Alike (codes "watch")
-unfolding walked
-watch_alike = record { meets = record { walks = refl; faults = refl }; meets_all = record { walks = refl; faults = refl }; simple = refl; entered = λ rest. refl; refused = λ rest. refl }
+bytes_same : (xs ys : List ℕ) → bytes_eq xs ys ≡ true → xs ≡ ys
+bytes_same xs ys same = (bytes_eq-Decides xs ys).0 same
 
-migrate_alike : Alike (codes "migrate")
-unfolding walked
-migrate_alike = record { meets = record { walks = refl; faults = refl }; meets_all = record { walks = refl; faults = refl }; simple = refl; entered = λ rest. refl; refused = λ rest. refl }
+here_or_later : (name : Text) (x s : Subcommand) (later : Option Subcommand) (b : Bool) → bytes_eq x.0.now name ≡ b → Alike x → (Some s ≡ later → Found name s)
+    → Some s ≡ cond b (Some x) later → Found name s
+here_or_later name x s later true is alike below e = subst (Found name) (sym (some_is _ _ e)) (sym (bytes_same x.0.now name is), alike)
+here_or_later name x s later false is alike below e = below e
 
-gdb_alike : Alike (codes "gdb")
-unfolding walked
-gdb_alike = record { meets = record { walks = refl; faults = refl }; meets_all = record { walks = refl; faults = refl }; simple = refl; entered = λ rest. refl; refused = λ rest. refl }
-
-hunt_alike : Alike (codes "hunt")
-unfolding walked
-hunt_alike = record { meets = record { walks = refl; faults = refl }; meets_all = record { walks = refl; faults = refl }; simple = refl; entered = λ rest. refl; refused = λ rest. refl }
-
-shrink_alike : Alike (codes "shrink")
-unfolding walked
-shrink_alike = record { meets = record { walks = refl; faults = refl }; meets_all = record { walks = refl; faults = refl }; simple = refl; entered = λ rest. refl; refused = λ rest. refl }
-
-merge_alike : Alike (codes "merge")
-unfolding walked
-merge_alike = record { meets = record { walks = refl; faults = refl }; meets_all = record { walks = refl; faults = refl }; simple = refl; entered = λ rest. refl; refused = λ rest. refl }
-
-fences_alike : Alike (codes "fences")
-unfolding walked
-fences_alike = record { meets = record { walks = refl; faults = refl }; meets_all = record { walks = refl; faults = refl }; simple = refl; entered = λ rest. refl; refused = λ rest. refl }
-
-all_alike : Alike (codes "all")
-unfolding walked
-all_alike = record { meets = record { walks = refl; faults = refl }; meets_all = record { walks = refl; faults = refl }; simple = refl; entered = λ rest. refl; refused = λ rest. refl }
-
-compare_alike : Alike (codes "compare")
-unfolding walked
-compare_alike = record { meets = record { walks = refl; faults = refl }; meets_all = record { walks = refl; faults = refl }; simple = refl; entered = λ rest. refl; refused = λ rest. refl }
-
-plan_alike : Alike (codes "plan")
-unfolding walked
-plan_alike = record { meets = record { walks = refl; faults = refl }; meets_all = record { walks = refl; faults = refl }; simple = refl; entered = λ rest. refl; refused = λ rest. refl }
-
-draw_alike : Alike (codes "draw")
-unfolding walked
-draw_alike = record { meets = record { walks = refl; faults = refl }; meets_all = record { walks = refl; faults = refl }; simple = refl; entered = λ rest. refl; refused = λ rest. refl }
-
-trace_alike : Alike (codes "trace")
-unfolding walked
-trace_alike = record { meets = record { walks = refl; faults = refl }; meets_all = record { walks = refl; faults = refl }; simple = refl; entered = λ rest. refl; refused = λ rest. refl }
-
-execution_alike : Alike (codes "execution")
-unfolding walked
-execution_alike = record { meets = record { walks = refl; faults = refl }; meets_all = record { walks = refl; faults = refl }; simple = refl; entered = λ rest. refl; refused = λ rest. refl }
-
-check_alike : Alike (codes "check")
-unfolding walked
-check_alike = record { meets = record { walks = refl; faults = refl }; meets_all = record { walks = refl; faults = refl }; simple = refl; entered = λ rest. refl; refused = λ rest. refl }
-
-each_alike : (name : Text) → IsSubcommand name → Alike name
-each_alike name (inl e) = subst Alike (sym e) run_alike
-each_alike name (inr (inl e)) = subst Alike (sym e) order_alike
-each_alike name (inr (inr (inl e))) = subst Alike (sym e) record_alike
-each_alike name (inr (inr (inr (inl e)))) = subst Alike (sym e) replay_alike
-each_alike name (inr (inr (inr (inr (inl e))))) = subst Alike (sym e) watch_alike
-each_alike name (inr (inr (inr (inr (inr (inl e)))))) = subst Alike (sym e) migrate_alike
-each_alike name (inr (inr (inr (inr (inr (inr (inl e))))))) = subst Alike (sym e) gdb_alike
-each_alike name (inr (inr (inr (inr (inr (inr (inr (inl e)))))))) = subst Alike (sym e) hunt_alike
-each_alike name (inr (inr (inr (inr (inr (inr (inr (inr (inl e))))))))) = subst Alike (sym e) shrink_alike
-each_alike name (inr (inr (inr (inr (inr (inr (inr (inr (inr (inl e)))))))))) = subst Alike (sym e) merge_alike
-each_alike name (inr (inr (inr (inr (inr (inr (inr (inr (inr (inr (inl e))))))))))) = subst Alike (sym e) fences_alike
-each_alike name (inr (inr (inr (inr (inr (inr (inr (inr (inr (inr (inr (inl e)))))))))))) = subst Alike (sym e) all_alike
-each_alike name (inr (inr (inr (inr (inr (inr (inr (inr (inr (inr (inr (inr (inl e))))))))))))) = subst Alike (sym e) compare_alike
-each_alike name (inr (inr (inr (inr (inr (inr (inr (inr (inr (inr (inr (inr (inr (inl e)))))))))))))) = subst Alike (sym e) plan_alike
-each_alike name (inr (inr (inr (inr (inr (inr (inr (inr (inr (inr (inr (inr (inr (inr (inl e))))))))))))))) = subst Alike (sym e) draw_alike
-each_alike name (inr (inr (inr (inr (inr (inr (inr (inr (inr (inr (inr (inr (inr (inr (inr (inl e)))))))))))))))) = subst Alike (sym e) trace_alike
-each_alike name (inr (inr (inr (inr (inr (inr (inr (inr (inr (inr (inr (inr (inr (inr (inr (inr (inl e))))))))))))))))) = subst Alike (sym e) execution_alike
-each_alike name (inr (inr (inr (inr (inr (inr (inr (inr (inr (inr (inr (inr (inr (inr (inr (inr (inr e))))))))))))))))) = subst Alike (sym e) check_alike
+first_found : (name : Text) (subs : List Subcommand) (s : Subcommand) → EachAlike subs → Some s ≡ find (λ x. bytes_eq x.0.now name) subs → Found name s
+first_found name [] s each e = cc
+first_found name (x ∷ rest) s each e = here_or_later name x s _ _ refl each.0 (first_found name rest s each.1) e
 
 -- a line whose second word names a subcommand
 abbrev second : List (Bor (List ℕ)) → Text
 second words = (get_or words 1 (record { ref_ptr = (0, 0); now = [] })).now
 
-pub named_line : (words : List (Bor (List ℕ))) → 2 ≤ length words → IsSubcommand (second words) → ReadsAsAll (map (λ s. s.now) words) (one (second words))
-named_line [] few is = absurd (omega arith)
-named_line (p ∷ []) few is = absurd (omega arith)
-named_line (p ∷ name ∷ rest) few is = reads p.now name.now (map (λ s. s.now) rest) (each_alike name.now is)
+pub named_line : (words : List (Bor (List ℕ))) (s : Subcommand) → 2 ≤ length words → Some s ≡ named (second words) → ReadsAsAll (map (λ w. w.now) words) (one s)
+named_line [] s few is = absurd (omega arith)
+named_line (p ∷ []) s few is = absurd (omega arith)
+named_line (p ∷ name ∷ rest) s few is =
+    let found = first_found name.now subcommands s each_alike is in
+    subst (λ n. ReadsAsAll (p.now ∷ n ∷ map (λ w. w.now) rest) (one s)) (sym found.0) (reads p.now s (map (λ w. w.now) rest) found.1)
 
 pub all_read : (words : List Text) → ReadsAsAll words dethart_app
+unfolding subcommands
 all_read words = record { simple = refl; subcommand = refl; fault = refl }
 
 pub with_app : {E : Type 0} (words : List Text) (r : Result Command E) (app : App) → ReadsAsAll words app → IfOk r (λ command. app_of command ≡ app)

@@ -1,12 +1,8 @@
 //! The grammar of the command line of `dethart`: its subcommands, and what each of them takes, as `clap` is told them.
 #![tactic(auto)]
 
-mod arguments;
-mod ending_options;
-mod family_options;
 mod options;
-mod program_options;
-mod recording_options;
-mod run_options;
+mod rows;
+mod tables;
 
 pub use options::{command_for, subcommand_named};

@@ -2,7 +2,8 @@ use Rattle.std.proofs.Common.{rules, false, true≢false, is_some, ◌≡◌, �
 use Rattle.clap.specs.Simple.{built}
 use Rattle.std.specs.Prelude.{IfOk}
 use Rattle.clap.specs.Words.{FailsBy, HasKind, Kinds, Row, Text, app_of, fault_of, found_of, rows_of, subcommand_name_of, subcommand_of, subcommand_rows_of}
-use Rattle.command_options.specs.Options.{IsSubcommand, dethart_app}
+use Rattle.command_options.specs.Options.{dethart_app}
+use Rattle.command_line.specs.Names.{IsSubcommand}
 use Rattle.command_line.specs.Faults.{line_fault}
 use Rattle.command_line.specs.Reading.{HoldsLine}
 use Rattle.command_line.proofs.Lines.{Met, after_clap, is_known, kept_first, name_of, simple, some_is, takes_one}

@@ -9,9 +9,9 @@ returns-clause-app c =
     ap app_of_fields c.disable_help_subcommand.ensures
     ∙ (ap (λ f. app_of_fields (record f { disable_help_subcommand = true })) c.subcommand_required.ensures
     ∙ (ap (λ f. app_of_fields (record f { subcommand_required = true; disable_help_subcommand = true })) c.version.ensures
-    ∙ ap wanting c.named_command.ensures.app))
+    ∙ ap wanting c.new_command.ensures.app))
 
 pub returns-clause-local : goal.returns-clause-local
 returns-clause-local c =
     ap (λ f. f.has_globals) c.disable_help_subcommand.ensures ∙ (ap (λ f. f.has_globals) c.subcommand_required.ensures
-    ∙ (ap (λ f. f.has_globals) c.version.ensures ∙ c.named_command.ensures.local))
+    ∙ (ap (λ f. f.has_globals) c.version.ensures ∙ c.new_command.ensures.local))
