@@ -1,0 +1,13 @@
+pub mod Lists
+pub mod Sums
+pub mod Views
+pub mod Pages
+pub mod Claiming
+pub mod Locking
+pub mod Turning
+pub mod Dealing
+pub mod Beginning
+pub mod Moves
+pub mod Putting
+pub mod Books
+pub mod Working
