@@ -16,4 +16,3 @@ pub mod Tallied
 pub mod GuestRounds
 pub mod NextStarts
 pub mod WholeHistories
-mod Sharing
