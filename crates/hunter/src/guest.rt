@@ -8,10 +8,10 @@ ghost use Rattle.hunter.specs.Hunts.{IsGuest, IsImageCause, ended_of, ending_by,
 
 use crate::finding::run_or_loop;
 use crate::settings::HuntSettings;
+use elf_loader::Image;
 use hart_step::{Hart, Stop};
 use host_io::RunError;
 use hunt_table::SeenRange;
-use laid_image::LaidImage;
 use machine::{UntracedMachine, load};
 use pages::OutOfMemory;
 use plan_hunt::{Ending, HartEnding, HuntObserver, PlanRuns, Runs};
@@ -26,8 +26,7 @@ pub(crate) struct Guest<'a, O> {
     pub alloc: Global,
     pub settings: &'a HuntSettings,
     pub input: &'a [u8],
-    /// Laid into memory once: each run begins with it.
-    pub image: LaidImage,
+    pub image: Image,
     /// It is told how far runs are.
     pub observer: &'a O,
     ghost range: { IsGuest settings.now },
@@ -90,8 +89,7 @@ impl<'a, O> Guest<'a, O> {
         ensures refused { (cause : ImageCause) → IsImageCause settings.now file.now cause →
             (result ≡ Err (refusals.Image cause)) ⊎ (result ≡ Err refusals.OutOfMemory) }
     {
-        let loaded = load(alloc, settings.format, file, settings.pages)?;
-        let image = LaidImage::new(alloc, loaded)?;
+        let image = load(alloc, settings.format, file, settings.pages)?;
         Ok(Guest {
             alloc,
             settings,
@@ -118,7 +116,7 @@ impl<'a, O> Guest<'a, O> {
         let Ok(input) = Vec::from_slice(self.alloc, self.input) else {
             return Err(OutOfMemory);
         };
-        refused(UntracedMachine::open_laid(self.alloc, &self.image, input, plan))
+        refused(UntracedMachine::open(self.alloc, &self.image, input, plan))
     }
 }
 
