@@ -54,6 +54,7 @@ impl Part {
     }
 
     /// An equal page: its own bytes are copied, and those that it shares are shared.
+    #[inline]
     pub(crate) fn copy(&self, alloc: Global) -> Result<Part, OutOfMemory>
         ensures { IfOk result (λ p. p ≡ self.now) }
     {
@@ -61,10 +62,13 @@ impl Part {
             Some(bytes) => Some(bytes.clone()?),
             None => None,
         };
-        Ok(Part {
-            own: Vec::from_slice(alloc, &self.own)?,
-            shared,
-        })
+        // Most pages of a guest that was opened many times have no bytes of their own.
+        let own = if self.own.is_empty() {
+            Vec::new(alloc)
+        } else {
+            Vec::from_slice(alloc, &self.own)?
+        };
+        Ok(Part { own, shared })
     }
 
     /// Has copies share the bytes from here on, so that the page has none of its own. Refused, it keeps its own.
