@@ -1,16 +1,15 @@
-ghost use Rattle.std.specs.Prelude.{◌≡◌, ◌<◌, ◌↔◌, All, IsTrue, IfOk, MatchOption, length};
+ghost use Rattle.std.specs.Prelude.{◌≡◌, ◌==◌, ◌<◌, ◌≤◌, ◌↔◌, ℕ, All, IsTrue, IfOk, MatchOption, if◌then◌else◌, length};
 ghost use Rattle.trace.specs.Traced.{HasForm};
 ghost use Rattle.memory_order.specs.Orders.{ListsOperations, order_position};
 ghost use Rattle.memory_order.specs.Rvwmo.{MaySee};
 ghost use Rattle.memory_order.specs.Dependencies.{RespectsDependencies, RespectsAt, has_failed};
 ghost use Rattle.hart_step.specs.Registers.{reg, set_reg};
 ghost use Rattle.memory_order.specs.Checking.{AreSources, IsRanking, source_of};
-ghost use Rattle.rule_checker.specs.CarriedBounds.{AllowedBy, AreRegisters, MayForward, MayForwardAll, carried_after, operand_bound, sources_bound};
+ghost use Rattle.rule_checker.specs.CarriedBounds.{AllowedBy, AreRegisters, MayForward, MayForwardAll, carried_after, carried_of, operand_bound, sources_bound};
 ghost use Rattle.rule_checker.specs.Violations.{IsFirstViolation};
 
 use memory_order::{
-    Registers, Sources, event_at, is_operation, of_hart, position_of, set_of_hart, source_at,
-    used_registers,
+    Registers, Sources, event_at, is_operation, of_hart, position_of, source_at, used_registers,
 };
 use pages::OutOfMemory;
 use round_schedule::{Access, Event};
@@ -71,8 +70,7 @@ pub(crate) fn first_by_dependency(
             return Ok(Some(i));
         }
         operands.push(operand_bound(&carried, &used))?;
-        let next = carried_after(&carried, &used, &event, position + 1);
-        set_of_hart(&mut harts, event.hart, next);
+        carry(&mut harts, &used, &event, position + 1);
     }
     Ok(None)
 }
@@ -115,9 +113,20 @@ fn has_failed(access: &Access) -> bool
     matches!(*access, Access::StoreConditional { written: None, .. })
 }
 
-/// The bounds after one more instruction, whose event stands before the position `next`.
-fn carried_after(carried: &Carried, x: &Registers, event: &Event, next: usize) -> Carried
-    ensures { result ≡ carried_after carried.now x.now event.now next }
+/// Takes the bounds of a hart past one more instruction, whose event stands before the position `next`.
+fn carry(harts: &mut Vec<Carried>, x: &Registers, event: &Event, next: usize)
+    requires { 256 ≤ length harts.old.items }
+    ensures len { length harts.new.items ≡ length harts.old.items }
+    ensures set { (h : ℕ) → carried_of harts.new.items h ≡ (if h == event.now.hart then
+        carried_after (carried_of harts.old.items event.now.hart) x.now event.now next
+        else carried_of harts.old.items h) }
+{
+    carry_on(&mut harts[usize::from(event.hart)], x, event, next);
+}
+
+/// The same of its bounds alone.
+fn carry_on(carried: &mut Carried, x: &Registers, event: &Event, next: usize)
+    ensures { carried.new ≡ carried_after carried.old x.now event.now next }
 {
     let sources = sources_bound(carried, x);
     let addressed = bound_of(carried, x.address);
@@ -128,24 +137,19 @@ fn carried_after(carried: &Carried, x: &Registers, event: &Event, next: usize) -
     } else {
         x.destination
     };
-    Carried {
-        registers: set_bound(carried.registers, destination, own.max(on)),
-        steered: if x.steers {
-            carried.steered.max(sources)
-        } else {
-            carried.steered
-        },
-        addressed: carried.addressed.max(addressed),
+    if x.steers {
+        carried.steered = carried.steered.max(sources);
     }
+    carried.addressed = carried.addressed.max(addressed);
+    set_bound(&mut carried.registers, destination, own.max(on));
 }
 
-fn set_bound(mut registers: [usize; 32], r: Reg, value: usize) -> [usize; 32]
-    ensures { result ≡ set_reg registers r value }
+fn set_bound(registers: &mut [usize; 32], r: Reg, value: usize)
+    ensures { registers.new ≡ set_reg registers.old r value }
 {
     if r.index() != 0 {
         registers[r.index()] = value;
     }
-    registers
 }
 
 /// Whether an operation may stand at a position by the rules 9, 10, 11 and 13.

@@ -11,7 +11,7 @@ use Rattle.memory_order.specs.Dependencies.{RespectsAt, registers_at}
 use Rattle.memory_order.specs.Registers.{registers_of}
 use Rattle.rule_checker.specs.declared.carried.Carried.{Carried}
 use Rattle.memory_order.specs.Checking.{source_of}
-use Rattle.rule_checker.specs.CarriedBounds.{AreOperands, MayForwardAll, carried_of, none_carried}
+use Rattle.rule_checker.specs.CarriedBounds.{AreOperands, MayForwardAll, carried_after, carried_of, none_carried}
 use Rattle.memory_order.proofs.Harts.{alike_at_first}
 use Rattle.rule_checker.proofs.Firsts.{first_at}
 use Rattle.rule_checker.proofs.Carrying.{Carries, allowed_from_respected, carries_none, carries_step, forwards_from_respected, respected_from_allowed, operands_step}
@@ -86,10 +86,10 @@ loop-i-preserved c =
           absurd (let no = sym c.is_operation.ensures ∙ w.if-is_operation.false in let same = ap is_operation c.event_at-event.ensures.at in cc)
     ] in
     record {
-      harts = c.set_of_hart.ensures.len ∙ c.loop-i.invariant.harts;
-      carries = carries_step is t pos i (p + 1) e x b (λ h. carried_of c.loop-i.harts.items h) (λ h. carried_of c.set_of_hart.new.harts.items h)
+      harts = c.carry.ensures.len ∙ c.loop-i.invariant.harts;
+      carries = carries_step is t pos i (p + 1) e x b (λ h. carried_of c.loop-i.harts.items h) (λ h. carried_of c.carry.new.harts.items h)
           c.event_at-event.ensures.at used c.are_registers.ensures (ap (λ n. n + 1) c.position_of-position.ensures.at) (c.of_hart-carried.ensures none_carried)
-          (λ h. c.set_of_hart.ensures.set none_carried h ∙ ap (λ (y : Carried). if h == c.event_at-event.result.hart then y else carried_of c.loop-i.harts.items h) c.carried_after-next.ensures)
+          (λ h. c.carry.ensures.set h ∙ ap (λ (y : Carried). if h == e.hart then carried_after y x e (p + 1) else carried_of c.loop-i.harts.items h) (sym (c.of_hart-carried.ensures none_carried)))
           c.loop-i.invariant.carries;
       operands = subst (λ v. AreOperands is t pos (i + 1) v) (sym (c.in_ok-push.ensures.items ∙ ap (λ n. c.loop-i.operands.items ++ n ∷ []) c.operand_bound.ensures))
           (operands_step is t pos i e x b c.loop-i.operands.items c.event_at-event.ensures.at used c.are_registers.ensures known c.loop-i.invariant.operands);
