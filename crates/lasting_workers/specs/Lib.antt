@@ -1,2 +1,2 @@
 pub mod Borrowed
-pub mod Histories
+pub mod Sharing

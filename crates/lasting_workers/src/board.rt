@@ -1,25 +1,29 @@
-ghost use Rattle.std.specs.Prelude.{◌≡◌, ◌≤◌, [], OnOk};
+ghost use Rattle.std.specs.Prelude.{◌≡◌, ◌<◌, ◌≤◌, ◌+◌, ◌^◌, [], All, IfOk, IfSome, length, vec_capacity};
 ghost use Rattle.std.specs.Arc.{arc_value};
-ghost use Rattle.lasting_workers.specs.Histories.{IsWholeHistory, ends_in};
+ghost use Rattle.lasting_workers.specs.Sharing.{HasShared};
+ghost use Rattle.parallel_phase.specs.Rounds.{IsCaller, IsWorker};
+ghost use Rattle.run_book.specs.Working.{KeepsRound};
 ghost use Rattle.round_schedule.specs.Bounds.{AreWorkers};
 
-use crate::history::History;
-use crate::posted_round::PostedRound;
-use crate::posted_start::{PostedStart, RunStarts};
+use crate::posted_start::PostedStart;
 use crate::postings::Postings;
 use hart_step::Access;
 use pages::OutOfMemory;
+use parallel_phase::{HartRound, Open, RunStarts, take_part};
+use run_book::{RunBook, Seat};
 use std::alloc::Global;
-use std::mem;
 use std::sync::{Arc, Condvar, Mutex, Wait};
 
-/// Where the start of each round of a run is posted, for the workers that last to take part.
+/// Where workers that last sleep between the rounds of a run, and find the start of the next one, beside the book that they share. What
+/// they claim and put goes by the book alone.
 // docs/decisions/threads.md
 #[derive(Drop)]
 pub struct Board<S: RunStarts> {
     alloc: Global,
     /// How many workers it is for.
     pub workers: u32,
+    /// The book of the run.
+    pub book: RunBook<HartRound<S>>,
     posted: Mutex<Postings<S>>,
     // Told to those who serve: a start was posted, or the board is closed.
     news: Condvar,
@@ -29,47 +33,80 @@ pub struct Board<S: RunStarts> {
 }
 
 impl<S: RunStarts> Board<S> {
-    /// A board with no start, for so many workers, of which the one who posts is one. This takes no memory.
-    pub fn new(alloc: Global, workers: u32) -> Board<S>
+    /// A board with no start for so many workers, with the book of a run of so many harts; the seat of the one who posts, and those of
+    /// the other workers.
+    pub fn open(
+        alloc: Global,
+        harts: u32,
+        workers: u32,
+    ) -> Result<(Board<S>, Seat<HartRound<S>>, Vec<Seat<HartRound<S>>>), OutOfMemory>
         requires { AreWorkers workers }
-        ensures { result.workers ≡ workers }
+        ensures workers { IfOk result (λ r. r.0.workers ≡ workers) }
+        ensures harts { IfOk result (λ r. r.0.book.harts ≡ harts) }
+        ensures caller { IfOk result (λ r. IsCaller r.0.book.table r.0.book.harts r.1) }
+        ensures first { IfOk result (λ r. (r.1.round ≡ 0) × (r.1.seen ≡ [])) }
+        ensures others { IfOk result (λ r. All (IsWorker r.0.book.table r.0.book.harts) r.2.items) }
     {
-        Board {
+        let Ok((book, seat, others)) = RunBook::<HartRound<S>>::open_for_run(alloc, harts, workers)
+        else {
+            return Err(OutOfMemory);
+        };
+        let board = Board {
             alloc,
             workers,
+            book,
             posted: Mutex::new(Postings {
                 start: None,
                 count: 0,
                 holders: 0,
-                history: History::new(alloc),
                 closed: false,
             }),
             news: Condvar::new(),
             leaving: Condvar::new(),
-        }
+        };
+        Ok((board, seat, others))
     }
 
-    /// A history for the one who posts, with no slot yet. This takes no memory.
-    pub fn history(&self) -> History<S>
-        ensures { result.slots.items ≡ [] }
+    /// Works on each start that is posted, with a seat that the worker keeps, until the board is closed. Threads do so at once.
+    pub fn serve<R: Wait>(&self, rt: &R, mut seat: Seat<HartRound<S>>)
+        requires { IsWorker self.now.book.table self.now.book.harts seat }
     {
-        History::new(self.alloc)
-    }
-
-    /// Works on each start that is posted, until the board is closed. Threads do so at once.
-    pub fn serve<R: Wait>(&self, rt: &R) {
         let mut seen = 0;
-        let mut rounds = Vec::new(self.alloc);
-        let mut spare = Vec::new(self.alloc);
+        let mut room = Vec::new(self.alloc);
         for _ in rt.forever() {
             let Some(start) = self.next_start(rt, &mut seen) else {
                 return;
             };
-            do_rounds(&start, &mut rounds, &mut spare);
+            self.work(rt, &start, &mut seat, &mut room);
             drop(start);
-            self.posted.lock(rt).leave(&mut rounds);
-            self.leaving.notify_one();
+            self.leave(rt);
         }
+    }
+
+    /// Takes part in a round, if it has the harts of the book.
+    fn work<R: Wait>(
+        &self,
+        rt: &R,
+        start: &PostedStart<S>,
+        seat: &mut Seat<HartRound<S>>,
+        room: &mut Vec<Access>,
+    )
+        requires { IsWorker self.now.book.table self.now.book.harts seat.old }
+        ensures seat { IsWorker self.now.book.table self.now.book.harts seat.new }
+        ensures kept { KeepsRound seat.old seat.new }
+    {
+        let lent = start.lent();
+        if self.book.harts() as usize <= lent.harts().len() {
+            take_part(rt, &lent, start.done, &self.book, seat, &Open, room);
+        }
+    }
+
+    /// A worker has let the start go.
+    fn leave<R: Wait>(&self, rt: &R) {
+        let mut posted = self.posted.lock(rt);
+        posted.holders = posted.holders.wrapping_sub(1);
+        drop(posted);
+        self.leaving.notify_one();
     }
 
     /// The next start that this worker has not seen, or none once the board is closed.
@@ -87,103 +124,90 @@ impl<S: RunStarts> Board<S> {
         unreachable!()
     }
 
-    /// Posts a start, works on it beside those who serve, and gives it back. With Ok the history is whole: it has the round of each
-    /// hart, and nothing else. What it has before is let go, and its capacity stays.
+    /// Posts a start, works on it beside those who serve, and gives it back with the history of its round, which the seat takes out of
+    /// the book: it is whole. The empty list takes its place.
     ///
     /// # Errors
     ///
-    /// The calling thread was refused memory for the history, or for a round that no worker had done.
+    /// `None` where a worker was refused memory. The book serves no further round then.
     pub fn share<R: Wait>(
         &self,
         rt: &R,
         start: PostedStart<S>,
-        history: &mut History<S>,
-    ) -> (PostedStart<S>, Result<(), OutOfMemory>)
+        seat: &mut Seat<HartRound<S>>,
+        blank: Vec<HartRound<S>>,
+        room: &mut Vec<Access>,
+    ) -> (PostedStart<S>, Option<Vec<HartRound<S>>>)
+        requires seat { IsCaller self.now.book.table self.now.book.harts seat.old }
+        requires later { (seat.old.round ≤ start.done) × (start.done + 1 < 2 ^ 32) }
+        requires blank { (blank.items ≡ []) × (self.now.book.harts ≤ vec_capacity blank) }
         ensures start { result.0 ≡ start }
-        ensures whole { OnOk result.1 (IsWholeHistory (S.starts start.round)
-            (ends_in history.new.slots.items)) }
+        ensures shared { IfSome result.1 (λ es. HasShared self.now.book.table start.done
+            self.now.book.harts seat.old es.items seat.new) }
+        ensures room { IfSome result.1 (λ es. self.now.book.harts ≤ vec_capacity es) }
     {
-        if history
-            .open(start.round, start.borrowed.harts.len())
-            .is_err()
-        {
-            return (start, Err(OutOfMemory));
-        }
-        let start = self.work_beside(rt, start, history);
-        let whole = history.complete(&start);
-        (start, whole)
+        let Some(blank) = self.book.open_round(rt, seat, start.done, blank) else {
+            return (start, None);
+        };
+        let start = self.work_beside(rt, start, seat, room);
+        let Some(history) = self.book.take_whole(rt, seat, blank) else {
+            return (start, None);
+        };
+        (start, Some(history))
     }
 
-    /// Posts a start with the history of its round, works on it beside those who serve, and takes both back.
+    /// Posts a start, works on it beside those who serve, and takes it back. Where it can't be posted the calling thread works alone.
     fn work_beside<R: Wait>(
         &self,
         rt: &R,
         start: PostedStart<S>,
-        history: &mut History<S>,
+        seat: &mut Seat<HartRound<S>>,
+        room: &mut Vec<Access>,
     ) -> PostedStart<S>
-        ensures { result ≡ start }
+        requires { IsWorker self.now.book.table self.now.book.harts seat.old }
+        ensures start { result ≡ start }
+        ensures seat { IsWorker self.now.book.table self.now.book.harts seat.new }
+        ensures kept { KeepsRound seat.old seat.new }
     {
         let shared = match Arc::new(self.alloc, start) {
             Ok(shared) => shared,
-            Err(refused) => return refused.value,
+            Err(refused) => {
+                let start = refused.value;
+                self.work(rt, &start, seat, room);
+                return start;
+            }
         };
-        self.post(rt, &shared, history);
-        let mut rounds = Vec::new(self.alloc);
-        let mut spare = Vec::new(self.alloc);
-        do_rounds(&shared, &mut rounds, &mut spare);
-        self.recall(rt, &mut rounds, history);
+        self.post(rt, &shared);
+        self.work(rt, &shared, seat, room);
+        self.recall(rt);
         sole(rt, shared)
     }
 
-    /// Posts a start, with the history of its round.
-    fn post<R: Wait>(&self, rt: &R, start: &Arc<PostedStart<S>, Global>, history: &mut History<S>) {
+    /// Posts a start.
+    fn post<R: Wait>(&self, rt: &R, start: &Arc<PostedStart<S>, Global>) {
         let mut posted = self.posted.lock(rt);
         posted.start = Arc::try_clone(start).ok();
         posted.count = posted.count.wrapping_add(1);
-        mem::swap(&mut posted.history, history);
         drop(posted);
         self.news.notify_all();
     }
 
-    /// Takes the start from the board, adds the calling thread's own rounds to the history, waits until no worker holds the start, and
-    /// takes the history.
-    fn recall<R: Wait>(&self, rt: &R, rounds: &mut Vec<PostedRound<S>>, history: &mut History<S>) {
+    /// Takes the start from the board, and waits until no worker holds it.
+    fn recall<R: Wait>(&self, rt: &R) {
         let mut posted = self.posted.lock(rt);
         posted.start = None;
-        posted.history.put_all(rounds);
         for _ in rt.forever() {
             if posted.holders == 0 {
                 break;
             }
             posted = self.leaving.wait(rt, posted);
         }
-        mem::swap(&mut posted.history, history);
     }
 
     /// Ends what serves the board.
     pub fn close<R: Wait>(&self, rt: &R) {
         self.posted.lock(rt).closed = true;
         self.news.notify_all();
-    }
-}
-
-/// Claims harts of a start and does their rounds until all are claimed, or memory is refused. The rounds are added to the list. `spare`
-/// is taken for the accesses of a round while it goes on.
-fn do_rounds<S: RunStarts>(
-    start: &PostedStart<S>,
-    rounds: &mut Vec<PostedRound<S>>,
-    spare: &mut Vec<Access>,
-) {
-    for _ in 0..start.borrowed.harts.len() {
-        let Some(number) = start.claim() else {
-            break;
-        };
-        let Ok(round) = PostedRound::of(start, number, spare) else {
-            break;
-        };
-        if rounds.push(round).is_err() {
-            break;
-        }
     }
 }
 

@@ -1,10 +1,9 @@
-use crate::history::History;
-use crate::posted_round::PostedRound;
-use crate::posted_start::{PostedStart, RunStarts};
+use crate::posted_start::PostedStart;
+use parallel_phase::RunStarts;
 use std::alloc::Global;
 use std::sync::Arc;
 
-/// What stands on a board.
+/// What stands on a board: no worker's part of a round does.
 #[derive(Drop)]
 pub(crate) struct Postings<S: RunStarts> {
     /// The start of the round that is under way, while it may be taken.
@@ -13,8 +12,6 @@ pub(crate) struct Postings<S: RunStarts> {
     pub(crate) count: u64,
     /// How many workers hold the start that was posted last.
     pub(crate) holders: u64,
-    /// The history of the round that is under way: what workers left.
-    pub(crate) history: History<S>,
     /// Whether no start will be posted any more.
     pub(crate) closed: bool,
 }
@@ -30,11 +27,5 @@ impl<S: RunStarts> Postings<S> {
         let start = Arc::try_clone(posted).ok()?;
         self.holders = self.holders.wrapping_add(1);
         Some(start)
-    }
-
-    /// A worker has let the start go, and leaves the rounds that it did: each is put into its hart's slot. This takes no memory.
-    pub(crate) fn leave(&mut self, rounds: &mut Vec<PostedRound<S>>) {
-        self.holders = self.holders.wrapping_sub(1);
-        self.history.put_all(rounds);
     }
 }

@@ -3,9 +3,12 @@ ghost use Rattle.std.specs.Prelude.{◌≤◌};
 use hart_step::Hart;
 use round_planner::Plan;
 
-/// How many instructions are worth a worker: starting its thread takes about as long as they do.
+/// A round of fewer instructions is done by one worker: waking others takes longer than they save.
 // docs/decisions/threads.md
-const WORTH_A_WORKER: u64 = 16_384;
+const WORTH_SHARING: u64 = 12_288;
+
+/// How many instructions of a larger round are worth a worker.
+const WORTH_A_WORKER: u64 = 4_096;
 
 /// About how many instructions the harts do together in the next round.
 #[derive(Clone, Copy)]
@@ -36,6 +39,9 @@ impl RoundWork {
             Some(work) => work,
             None => most_work(plan, rounds),
         };
+        if work < WORTH_SHARING {
+            return 1;
+        }
         let worth = (work / WORTH_A_WORKER).min(u64::from(running));
         if worth <= 1 {
             1

@@ -1,14 +1,1 @@
-pub mod Gatherings
-pub mod Lists
-pub mod Sums
-pub mod Views
-pub mod Claiming
-pub mod Locking
-pub mod Meeting
-pub mod Beginning
-pub mod Ending
-pub mod Moves
-pub mod Putting
-pub mod Books
-pub mod Using
-pub mod Taking
+pub mod Placing

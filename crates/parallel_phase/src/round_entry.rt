@@ -2,43 +2,36 @@
 
 ghost use Rattle.std.specs.Prelude.{◌≡◌, Some};
 ghost use Rattle.hart_rounds.specs.Ends.{round_at};
-ghost use Rattle.parallel_phase.specs.Rounds.{end_in, ticket_of};
-ghost use Rattle.hart_rounds.proofs.RoundAt.{one_end};
+ghost use Rattle.parallel_phase.specs.Rounds.{end_in, seat_of, ticket_of, turn_in};
 
-use crate::book_start::BookStart;
 use crate::claimed_round::HartRound;
-use crate::entry::Entry;
-use crate::ticket::Ticket;
+use crate::run_starts::RunStarts;
 use hart_rounds::HartEnd;
 use hart_step::Hart;
+use run_book::{Entry, Ticket};
 use std::marker::PhantomData;
 use store_buffer::StoreBuffer;
 use trace::Log;
 
-impl<B: BookStart> Entry for HartRound<B> {
-    ghost hart = { λ r. (ticket_of r).hart };
+impl<S: RunStarts> Entry for HartRound<S> {
+    ghost turn = { λ r. turn_in r };
 
-    ghost seat = { λ r. (ticket_of r).seat };
+    ghost seat = { λ r. seat_of r };
 
-    ghost right = { λ r. round_at B.start (ticket_of r).hart ≡ Some (end_in r) };
+    ghost right = { λ r. round_at (S.starts (ticket_of r).round) (ticket_of r).hart ≡
+        Some (end_in r) };
 
-    ghost same = { λ r s. end_in r ≡ end_in s };
-
-    fn hart_number(&self) -> u32 {
-        self.ticket.hart
+    fn turn_number(&self) -> u64 {
+        self.ticket.turn()
     }
 
     ghost is_right = { λ r. r.content };
-
-    ghost is_same = { λ r s e.
-        one_end B.start (ticket_of r).hart (ticket_of s).hart (end_in r) (end_in s) r.content
-        s.content e };
 }
 
-impl<B: BookStart> HartRound<B> {
-    /// A round for a ticket. What it left is what the round of the ticket's hart leaves from the book's start.
-    pub fn new(ticket: Ticket, end: HartEnd) -> HartRound<B>
-        requires { round_at B.start ticket.hart ≡ Some end }
+impl<S: RunStarts> HartRound<S> {
+    /// A round for a ticket. What it left is what the round of the ticket's hart leaves from the start of the ticket's round of the run.
+    pub fn new(ticket: Ticket, end: HartEnd) -> HartRound<S>
+        requires { round_at (S.starts ticket.round) ticket.hart ≡ Some end }
         ensures ticket { ticket_of result ≡ ticket }
         ensures content { end_in result ≡ end }
     {

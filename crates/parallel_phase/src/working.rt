@@ -1,83 +1,100 @@
-//! What one worker does, and all of them.
+//! What one worker does in a round, and all of them.
 
-ghost use Rattle.std.specs.Prelude.{◌≡◌, ◌<◌, length, All};
-ghost use Rattle.parallel_phase.specs.Rounds.{harts_put};
-ghost use Rattle.parallel_phase.specs.Ready.{IsReady};
+ghost use Rattle.std.specs.Prelude.{◌≡◌, ◌≤◌, length, All};
+ghost use Rattle.parallel_phase.specs.Rounds.{IsWorker};
+ghost use Rattle.run_book.specs.Working.{KeepsRound};
 
 use crate::beside::{Work, work_on_each};
-use crate::book::RoundBook;
-use crate::book_start::BookStart;
 use crate::claimed_round::HartRound;
 use crate::gate::Gate;
 use crate::rounds::hart_round;
-use crate::seat::Seat;
+use crate::run_starts::RunStarts;
 use hart_rounds::RoundStart;
+use hart_step::Access;
+use run_book::{RunBook, Seat};
 use std::sync::Wait;
 use std::thread::Threads;
 
-/// Claims harts and puts their rounds until every hart is claimed, or memory is refused.
-pub(crate) fn work<B: BookStart, G: Gate, R: Wait>(
+/// Claims harts of a round and puts their rounds until every hart is claimed, or memory is refused. `room` is taken for the accesses
+/// of a hart's round while it goes on.
+pub fn take_part<S: RunStarts, G: Gate, R: Wait>(
     rt: &R,
     start: &RoundStart<'_>,
-    book: &RoundBook<HartRound<B>>,
+    round: u32,
+    book: &RunBook<HartRound<S>>,
+    seat: &mut Seat<HartRound<S>>,
     gate: &G,
-    seat: &mut Seat<HartRound<B>>,
+    room: &mut Vec<Access>,
 )
-    requires start { start.now ≡ B.start }
-    requires seat { IsReady book.now.table (length start.now.harts) seat.old }
-    ensures { seat.new.table ≡ seat.old.table }
+    requires start { start.now ≡ S.starts round }
+    requires harts { book.now.harts ≤ length start.now.harts }
+    requires seat { IsWorker book.now.table book.now.harts seat.old }
+    ensures seat { IsWorker book.now.table book.now.harts seat.new }
+    ensures kept { KeepsRound seat.old seat.new }
 {
     for _ in rt.forever() {
-        let Some(ticket) = book.claim(seat) else {
-            break;
+        let Some(ticket) = book.claim(seat, round) else {
+            return;
         };
         let hart = ticket.hart();
         gate.pass(hart);
-        let Ok(round) = hart_round::<B>(ticket, start) else {
-            break;
+        let Ok(entry) = hart_round::<S>(ticket, start, room) else {
+            return;
         };
-        book.put(rt, seat, round);
+        book.put(rt, seat, entry);
         gate.done(hart);
     }
+    unreachable!()
 }
 
 /// What every worker of a round works with.
 #[derive(Drop)]
-struct Worker<'a, 'b, B: BookStart, G, R> {
+struct Worker<'a, 'b, S: RunStarts, G, R> {
     rt: &'a R,
     start: &'a RoundStart<'b>,
-    book: &'a RoundBook<HartRound<B>>,
+    round: u32,
+    book: &'a RunBook<HartRound<S>>,
     gate: &'a G,
 }
 
-impl<'a, 'b, B: BookStart, G: Gate, R: Wait> Work<Seat<HartRound<B>>> for Worker<'a, 'b, B, G, R> {
-    ghost asks = { λ w k. (w.start.now ≡ B.start) ×
-        IsReady w.book.now.table (length w.start.now.harts) k };
+impl<'a, 'b, S: RunStarts, G: Gate, R: Wait> Work<Seat<HartRound<S>>> for Worker<'a, 'b, S, G, R> {
+    ghost asks = { λ w k. (w.start.now ≡ S.starts w.round) ×
+        (w.book.now.harts ≤ length w.start.now.harts) ×
+        IsWorker w.book.now.table w.book.now.harts k };
 
-    ghost leaves = { λ w k. k.table ≡ w.book.now.table };
+    ghost leaves = { λ w k l. IsWorker w.book.now.table w.book.now.harts l × KeepsRound k l };
 
-    fn work(&self, seat: &mut Seat<HartRound<B>>) {
-        work(self.rt, self.start, self.book, self.gate, seat)
+    fn work(&self, seat: &mut Seat<HartRound<S>>) {
+        let mut room = Vec::new(self.start.pages().allocator());
+        take_part(
+            self.rt, self.start, self.round, self.book, seat, self.gate, &mut room,
+        )
     }
 }
 
-/// Gives each seat to a worker of its own: the calling thread is one, and the others are started.
-pub(crate) fn work_all<B: BookStart + Send + Sync, G: Gate + Sync, R: Threads + Wait + Sync>(
+/// Gives each seat to a worker of its own: the calling thread has one, and the others are started.
+pub(crate) fn work_all<S: RunStarts + Send + Sync, G: Gate + Sync, R: Threads + Wait + Sync>(
     rt: &R,
     start: &RoundStart<'_>,
-    book: &RoundBook<HartRound<B>>,
+    round: u32,
+    book: &RunBook<HartRound<S>>,
     gate: &G,
-    seats: &mut [Seat<HartRound<B>>],
+    seat: &mut Seat<HartRound<S>>,
+    others: &mut [Seat<HartRound<S>>],
 )
-    requires start { start.now ≡ B.start }
-    requires seats { All (λ k. IsReady book.now.table (length start.now.harts) k) seats.old }
-    ensures { All (λ k. k.table ≡ book.now.table) seats.new }
+    requires start { start.now ≡ S.starts round }
+    requires harts { book.now.harts ≤ length start.now.harts }
+    requires seat { IsWorker book.now.table book.now.harts seat.old }
+    requires others { All (λ k. IsWorker book.now.table book.now.harts k) others.old }
+    ensures seat { IsWorker book.now.table book.now.harts seat.new }
+    ensures kept { KeepsRound seat.old seat.new }
 {
     let worker = Worker {
         rt,
         start,
+        round,
         book,
         gate,
     };
-    work_on_each(rt, &worker, seats);
+    work_on_each(rt, &worker, seat, others);
 }

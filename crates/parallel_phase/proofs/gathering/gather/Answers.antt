@@ -1,33 +1,19 @@
-use Rattle.std.proofs.Common.{◌≡◌, ◌<◌, List, length, sym, refl, ap, ◌∙◌, subst}
-use Rattle.parallel_phase.specs.declared.claimed_round.HartRound.{HartRound}
-use Rattle.parallel_phase.specs.Known.{Known}
-use Rattle.parallel_phase.specs.Lists.{Each}
-use Rattle.parallel_phase.specs.Rounds.{hart_of}
-use Rattle.parallel_phase.proofs.Moves.{only_harts}
-use Rattle.parallel_phase.proofs.Using.{as_many}
-use Rattle.parallel_phase.proofs.Gatherings.{all_ready, each_over, table_of, written_over}
+use Rattle.std.proofs.Common.{◌∙◌, ap, arith, length}
+use Rattle.parallel_phase.proofs.Placing.{of_each, whole_at}
+use Rattle.parallel_phase.specs.Rounds.{IsWorker}
 use Rattle.parallel_phase.proofs.gathering.gather.Goals as goal
 
-pub work_all-requires-clause-seats : goal.work_all-requires-clause-seats
-work_all-requires-clause-seats g c =
-    λ lifetimes within. all_ready c.in_ok-book.book.table (length c.args.start.now.harts) c.args.workers c.as_mut_slice.result.now (c.as_mut_slice.ensures.value ∙ c.in_ok-book.ensures.seats)
+pub work_all-requires-clause-others : goal.work_all-requires-clause-others
+work_all-requires-clause-others g c = λ lifetimes within.
+    of_each (IsWorker c.in_ok-book.book.table c.in_ok-book.book.harts) c.as_mut_slice.result.now c.in_ok-book.others.items c.as_mut_slice.ensures.value c.in_ok-book.ensures.others
 
-pub close-gathered-requires-clause-all : goal.close-gathered-requires-clause-all
-close-gathered-requires-clause-all g c =
-    let seats = c.in_ok-book.seats in
-    let same : length c.work_all.new.seats ≡ length seats.items = c.work_all.auto.seats ∙ ap (λ (ks : List (Known (HartRound g.row.B.Denot g.B.BookStart))). length ks) c.as_mut_slice.ensures.value in
-    let many : length seats.items ≡ c.args.workers = ap (λ (ks : List (Known (HartRound g.row.B.Denot g.B.BookStart))). length ks) c.in_ok-book.ensures.seats
-    ∙ as_many (HartRound g.row.B.Denot g.B.BookStart) c.in_ok-book.book.table (length c.args.start.now.harts) c.args.workers in
-    ap (λ (ks : List (Known (HartRound g.row.B.Denot g.B.BookStart))). length ks) (written_over c.work_all.new.seats seats.items seats.len same seats.ok.0)
-    ∙ (same ∙ (many ∙ sym c.in_ok-book.ensures.book.1))
+pub take_whole-requires-clause-number : goal.take_whole-requires-clause-number
+take_whole-requires-clause-number g c = c.work_all.ensures.kept.number ∙ c.in_ok-book.ensures.calling.number
 
-pub close-gathered-requires-clause-table : goal.close-gathered-requires-clause-table
-close-gathered-requires-clause-table g c =
-    let seats = c.in_ok-book.seats in
-    let same : length c.work_all.new.seats ≡ length seats.items = c.work_all.auto.seats ∙ ap (λ (ks : List (Known (HartRound g.row.B.Denot g.B.BookStart))). length ks) c.as_mut_slice.ensures.value in
-    each_over (λ (k : Known (HartRound g.row.B.Denot g.B.BookStart)). k.table ≡ c.in_ok-book.book.table) c.work_all.new.seats seats.items seats.len same seats.ok.0 c.work_all.ensures
+pub take_whole-requires-clause-next : goal.take_whole-requires-clause-next
+take_whole-requires-clause-next g c = omega (arith, c.work_all.ensures.kept.round, c.in_ok-book.ensures.first.0)
 
-pub returns-then-is_complete : goal.returns-then-is_complete
-returns-then-is_complete g c =
-    table_of c.args.start.now c.close-gathered.result c.requires.start (c.close-gathered.ensures.harts ∙ c.in_ok-book.ensures.book.0) (c.if-is_complete.ensures.complete.0 refl)
-    (subst (λ n. Each (λ e. hart_of e < n) c.close-gathered.result.history) (sym c.close-gathered.ensures.harts) (only_harts _ _ _ _ _ _ c.close-gathered.ensures.made.made))
+pub returns : goal.returns
+returns g c =
+    whole_at c.work_all.new.seat.round 0 c.in_ok-book.book.harts (length c.args.start.now.harts) c.in-Some.history.items (c.work_all.ensures.kept.round ∙ c.in_ok-book.ensures.first.0)
+    (omega (arith, c.in_ok-book.ensures.harts, ap length c.harts-harts.ensures.harts)) c.in-Some.ensures.whole

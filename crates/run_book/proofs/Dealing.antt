@@ -1,0 +1,101 @@
+-- The cutting of a view and the joining of two keep the rule.
+use Rattle.std.proofs.Common.{◌≡◌, ◌≢◌, ℕ, List, [], ◌∷◌, ◌++◌, set, get_or, refl, sym, ap, ◌∙◌, subst, ⊎_elim, arith}
+use mathlib.Core.Option.{some}
+use lib.ListN.{get_elem?}
+use Rattle.atomic_table.specs.Table.{State, Splits, Joins}
+use Rattle.atomic_table.proofs.Lists.{at_set, at_snoc, set_else}
+use Rattle.run_book.specs.declared.sitter.Sitter.{Sitter}
+use Rattle.run_book.specs.declared.sitter.Size.{Size}
+use Rattle.run_book.specs.Lists.{Each}
+use Rattle.run_book.specs.Rule.{Fits, BookHolds, View}
+use Rattle.run_book.specs.Sitters.{first_of, held, numbered, one, others_of, sum_in, sum_of}
+use Rattle.run_book.proofs.Lists.{each_append, each_left, each_right}
+use Rattle.run_book.proofs.Sums.{sum_append, sum_in_append, sum_set}
+
+module _ {E : Type 0} where
+  sum_split : (f : Sitter E → ℕ) (vs : List (View E)) (id : ℕ) (v left right : View E) → get_elem? vs id ≡ some v → left ++ right ≡ v
+      → sum_of f (set vs id left ++ right ∷ []) ≡ sum_of f vs
+  sum_split f vs id v left right at e =
+      let a = sum_append f (set vs id left) right in
+      let b = sum_set f vs id v left at in
+      let c = sum_in_append f left right in
+      let d : sum_in f (left ++ right) ≡ sum_in f v = ap (sum_in f) e in
+      omega arith
+
+  sum_join : (f : Sitter E → ℕ) (vs : List (View E)) (id other : ℕ) (v w : View E) → get_elem? vs id ≡ some v → get_elem? (set vs id (v ++ w)) other ≡ some w
+      → sum_of f (set (set vs id (v ++ w)) other []) ≡ sum_of f vs
+  sum_join f vs id other v w at there =
+      let a = sum_set f vs id v (v ++ w) at in
+      let b = sum_set f (set vs id (v ++ w)) other w [] there in
+      let c = sum_in_append f v w in
+      omega arith
+
+  -- the sums that the rule speaks of are the same
+  pub record SameSums (us vs : List (View E)) : Type 0 where
+    pub held_are : sum_of held us ≡ sum_of held vs
+    pub all_are : sum_of one us ≡ sum_of one vs
+    pub numbered_are : (k : ℕ) → sum_of (numbered k) us ≡ sum_of (numbered k) vs
+
+  by_each : (us vs : List (View E)) → ((f : Sitter E → ℕ) → sum_of f us ≡ sum_of f vs) → SameSums us vs
+  by_each us vs sums = record { held_are = sums held; all_are = sums one; numbered_are = λ k. sums (numbered k) }
+
+module _ {S E : Type 0} (items : S → List E) (room : S → ℕ) (hart seat : E → ℕ) (size : Size) where
+  -- a change of views alone that keeps all sums
+  pub resight : (s : State S (View E)) (k : BookHolds items room hart seat size s) (views : List (View E)) → SameSums views s.views
+      → ((j : ℕ) (v : View E) → get_elem? views j ≡ some v → Each (Fits items room hart seat size k.owners k.log k.gone k.page (get_or s.words 0 0) k.who k.round) v)
+      → BookHolds items room hart seat size record { words = s.words; homes = s.homes; views = views }
+  resight s k views sums fits = record {
+    owners = k.owners;
+    log = k.log;
+    who = k.who;
+    wide = k.wide;
+    gone = k.gone;
+    page = k.page;
+    round = k.round;
+    counts = k.counts;
+    begun = k.begun;
+    low = k.low;
+    small = k.small;
+    counted = k.counted;
+    log_is = k.log_is;
+    entries = k.entries;
+    whose = k.whose;
+    apart = k.apart;
+    here = k.here;
+    settled = k.settled;
+    free = k.free;
+    locked = k.locked ∙ sym sums.held_are;
+    seats = λ o b. sums.numbered_are o ∙ k.seats o b;
+    all = sums.all_are ∙ k.all;
+    fits = fits;
+  }
+
+  pub splits : (id : ℕ) (v left right : View E) → left ++ right ≡ v → Splits (BookHolds items room hart seat size) id v left right
+  splits id v left right e s k at =
+      let P : Sitter E → Type 0 = Fits items room hart seat size k.owners k.log k.gone k.page (get_or s.words 0 0) k.who k.round in
+      let whole : Each P (left ++ right) = subst (Each P) (sym e) (k.fits id v at) in
+      resight s k (set s.views id left ++ right ∷ []) (by_each (set s.views id left ++ right ∷ []) s.views (λ f. sum_split f s.views id v left right at e))
+      (λ j u there. ⊎_elim
+      (λ (t : get_elem? (set s.views id left) j ≡ some u). ⊎_elim
+      (λ (here : (j ≡ id) × (left ≡ u)). subst (Each P) here.1 (each_left P left right whole))
+      (λ (else : (j ≢ id) × (get_elem? s.views j ≡ some u)). k.fits j u else.1)
+      (at_set s.views id j left u t))
+      (λ (t : right ≡ u). subst (Each P) t (each_right P left right whole))
+      (at_snoc (set s.views id left) right u j there))
+
+  pub joins : (id : ℕ) (v : View E) (other : ℕ) (w : View E) → Joins (BookHolds items room hart seat size) id v other w (v ++ w) []
+  joins id v other w s k at apart there =
+      let P : Sitter E → Type 0 = Fits items room hart seat size k.owners k.log k.gone k.page (get_or s.words 0 0) k.who k.round in
+      let before : get_elem? s.views other ≡ some w = sym (set_else s.views id other (v ++ w) apart) ∙ there in
+      resight s k (set (set s.views id (v ++ w)) other []) (by_each (set (set s.views id (v ++ w)) other []) s.views (λ f. sum_join f s.views id other v w at there))
+      (λ j u here. ⊎_elim
+      (λ (t : (j ≡ other) × ([] ≡ u)). subst (Each P) t.1 tt)
+      (λ (t : (j ≢ other) × (get_elem? (set s.views id (v ++ w)) j ≡ some u)). ⊎_elim
+      (λ (both : (j ≡ id) × ((v ++ w) ≡ u)). subst (Each P) both.1 (each_append P v w (k.fits id v at) (k.fits other w before)))
+      (λ (else : (j ≢ id) × (get_elem? s.views j ≡ some u)). k.fits j u else.1)
+      (at_set s.views id j (v ++ w) u t.1))
+      (at_set (set s.views id (v ++ w)) other j [] u here))
+
+pub rejoined : {E : Type 0} → (v : View E) → first_of v ++ others_of v ≡ v
+rejoined [] = refl
+rejoined (x ∷ xs) = refl

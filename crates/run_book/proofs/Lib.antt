@@ -1,0 +1,15 @@
+pub mod Lists
+pub mod Sums
+pub mod Views
+pub mod Pages
+pub mod Claiming
+pub mod Locking
+pub mod Turning
+pub mod Dealing
+pub mod Meeting
+pub mod Beginning
+pub mod Moves
+pub mod Putting
+pub mod Books
+pub mod Ending
+pub mod Working
