@@ -16,3 +16,4 @@ pub mod Tallied
 pub mod GuestRounds
 pub mod NextStarts
 pub mod WholeHistories
+mod Sharing

@@ -8,7 +8,7 @@ use Rattle.hart_step.specs.Words.{words_of}
 use Rattle.hart_rounds.specs.declared.hart_end.HartEnd.{HartEnd}
 use Rattle.hart_rounds.specs.Starts.{Start, rounds_of}
 use Rattle.hart_rounds.specs.Ends.{end_of, round_at}
-use Rattle.lasting_workers.specs.Histories.{IsWholeHistory}
+use Rattle.parallel_phase.specs.Rounds.{IsWholeHistory}
 use Rattle.guest_rounds.specs.Guests.{Guest}
 use Rattle.guest_rounds.specs.HartEnds.{AllFit, AreEndsOf}
 use Rattle.guest_rounds.specs.NextStarts.{AreOfGuest, next_start, quotas_from}
@@ -43,7 +43,7 @@ ends_from logs m qs (h ∷ hs) (o ∷ os) count f =
       ends_from logs m (rest_of qs) hs os (omega (arith, count)) (λ k low. f (suc k) (omega (arith, low))),
     )
 
-ends_of_whole : (s : Start) (os : List HartEnd) → IsWholeHistory s os → AreEndsOf s.logs s.memory (rounds_of s) os
+pub ends_of_whole : (s : Start) (os : List HartEnd) → IsWholeHistory s os → AreEndsOf s.logs s.memory (rounds_of s) os
 unfolding round_at
 ends_of_whole s os w = ends_from s.logs s.memory s.quotas s.harts os w.count w.rounds
 

@@ -5,4 +5,5 @@ pub mod Held
 pub mod Keepers
 pub mod NextStarts
 pub mod Rounds
+pub mod Crews
 pub mod HalfRounds

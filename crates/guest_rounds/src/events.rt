@@ -1,9 +1,9 @@
-ghost use Rattle.std.specs.Prelude.{◌≡◌, ◌+◌, ◌*◌, ◌^◌, ◌<◌, ◌≤◌, ◌++◌, length, drop, true, if◌then◌else◌};
+ghost use Rattle.std.specs.Prelude.{◌≡◌, ◌+◌, ◌^◌, ◌<◌, ◌≤◌, ◌++◌, length, drop, true, if◌then◌else◌};
 ghost use Rattle.round_schedule.specs.declared.event.Phase.TheVariants.{Parallel, Serial};
 ghost use Rattle.round_schedule.specs.ReservingTurn.{log_events};
 ghost use Rattle.round_schedule.specs.Events.{events_of};
 ghost use Rattle.trace.specs.Traced.{IsTrace};
-ghost use Rattle.guest_rounds.specs.HartEnds.{HasPlaces, count_copied, harts_of, events_of_ends, turns_of, waits_of};
+ghost use Rattle.guest_rounds.specs.HartEnds.{HasPlaces, count_copied, harts_of, events_of_ends};
 ghost use Rattle.serial_phase.specs.Turns.{count_log};
 
 use hart_rounds::HartEnd;
@@ -11,19 +11,6 @@ use hart_step::Access;
 use round_schedule::{MOST_HARTS, Phase};
 use serial_phase::SerialLog;
 use trace::{Log, Trace};
-
-/// How many instructions the serial turns may do together.
-pub fn turns_needed(ends: &[HartEnd], budget: u32) -> u32
-    requires few { length ends.now ≤ MOST_HARTS }
-    requires budget { budget ≤ 1000 }
-    ensures needed { result ≡ turns_of budget (waits_of ends.now) }
-    ensures small { result ≤ 1000 * length ends.now }
-{
-    match ends {
-        [] => 0,
-        [first, rest @ ..] => turns_needed(rest, budget) + if first.waits { budget } else { 0 },
-    }
-}
 
 /// Adds the events of the parallel phase, hart by hart. Where the trace adopts the harts' logs, they are handed over as they are.
 pub(crate) fn add_parallel(trace: &mut Trace, round: u32, ends: &mut [HartEnd], adopts: bool)

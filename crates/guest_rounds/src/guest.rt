@@ -1,11 +1,13 @@
 ghost use Rattle.std.specs.Prelude.{◌≡◌, ◌≤◌, length, IfOk};
 ghost use Rattle.guest_rounds.specs.Guests.{opening_guest, shared_of};
+ghost use Rattle.elf_loader.specs.Image.{memory_of};
 ghost use Rattle.hart_step.specs.DecodedCode.{Shows};
 
 use crate::opening::opening_harts;
 use crate::spare_lists::SpareLists;
 use elf_loader::Image;
 use hart_step::{DecodedCode, Hart, decode_around};
+use laid_image::LaidImage;
 use pages::{OutOfMemory, Pages};
 use round_schedule::{MOST_HARTS, Reservations};
 use serial_phase::{Console, SerialLog, SharedState};
@@ -56,9 +58,39 @@ impl GuestState {
         ensures { IfOk result (λ g. g ≡ opening_guest image.now input.items count) }
     {
         let pages = image.to_pages(alloc)?;
-        let entry = image.entry();
-        let code = decode_around(alloc, &pages, entry)?;
-        let harts = opening_harts(alloc, entry, count)?;
+        let code = decode_around(alloc, &pages, image.entry())?;
+        GuestState::begin(alloc, image, pages, code, input, count)
+    }
+
+    /// The same of an image that was laid into memory, so that one opens many guests: they share what its pages hold.
+    pub fn open_laid(
+        alloc: Global,
+        laid: &LaidImage,
+        input: Vec<u8>,
+        count: u32,
+    ) -> Result<GuestState, OutOfMemory>
+        requires { count ≤ MOST_HARTS }
+        ensures { IfOk result (λ g. g ≡ opening_guest laid.now input.items count) }
+    {
+        let (pages, code) = laid.open(alloc)?;
+        GuestState::begin(alloc, laid.image(), pages, code, input, count)
+    }
+
+    /// The same in these pages, of which this is the code.
+    fn begin(
+        alloc: Global,
+        image: &Image,
+        pages: Pages,
+        code: DecodedCode,
+        input: Vec<u8>,
+        count: u32,
+    ) -> Result<GuestState, OutOfMemory>
+        requires few { count ≤ MOST_HARTS }
+        requires memory { pages.memory ≡ memory_of image.now }
+        requires shows { Shows pages.memory code.first code.instructions }
+        ensures { IfOk result (λ g. g ≡ opening_guest image.now input.items count) }
+    {
+        let harts = opening_harts(alloc, image.entry(), count)?;
         let shared = SharedState::open(alloc, pages, code, input, count);
         Ok(GuestState {
             harts,
@@ -124,7 +156,7 @@ impl GuestState {
         let _harts = &self.harts;
     }
 
-    /// An equal guest. Pages that were written to are copied, and the words of the code are decoded anew.
+    /// An equal guest. Pages that were written to are copied, and so are the decoded words of the code.
     pub fn copy(&self) -> Result<GuestState, OutOfMemory>
         ensures { IfOk result (λ g. g ≡ self.now) }
     {
@@ -132,8 +164,8 @@ impl GuestState {
         self.over(pages)
     }
 
-    /// An equal guest that shares its pages: each of the two gets its own of a page when it writes there. The words of the code
-    /// are decoded anew.
+    /// An equal guest that shares its pages: each of the two gets its own of a page when it writes there. The decoded words of
+    /// the code are copied.
     pub fn share(&mut self) -> Result<GuestState, OutOfMemory>
         ensures same { IfOk result (λ g. g ≡ self.old) }
         ensures stays { self.new ≡ self.old }
@@ -164,17 +196,17 @@ impl GuestState {
         })
     }
 
-    /// Equal harts and an equal console, and the decoded words of equal pages.
+    /// Equal harts and an equal console, and the same decoded words, which are those of equal pages.
     fn copied_beside(&self, pages: &Pages) -> Result<(Vec<Hart>, Console, DecodedCode), OutOfMemory>
+        requires { pages.now.memory ≡ self.now.shared.memory }
         ensures harts { IfOk result (λ x. x.0.items ≡ self.now.harts) }
         ensures console { IfOk result (λ x. x.1.console ≡ self.now.shared.console) }
         ensures code { IfOk result (λ x. Shows pages.now.memory x.2.first x.2.instructions) }
     {
         let alloc = pages.allocator();
-        let known = &self.shared.code;
         let harts = copied(alloc, &self.harts)?;
         let console = self.shared.console.copy(alloc)?;
-        let code = DecodedCode::new(alloc, pages, known.first(), known.words().len())?;
+        let code = self.shared.code.copy(alloc)?;
         Ok((harts, console, code))
     }
 }

@@ -1,18 +1,20 @@
-ghost use Rattle.std.specs.Prelude.{◌≡◌, ◌<◌, ◌≤◌, ◌+◌, ◌^◌, ℕ, length, IfOk, []};
+ghost use Rattle.std.specs.Prelude.{◌≡◌, ◌<◌, ◌≤◌, ◌+◌, ◌^◌, ℕ, length, IfOk, [], ◌∷◌};
 ghost use Rattle.hart_rounds.specs.Starts.{keeps_log};
-ghost use Rattle.lasting_workers.specs.Histories.{IsWholeHistory};
+ghost use Rattle.parallel_phase.specs.Rounds.{HasGatheredRounds, IsWholeHistory};
+ghost use Rattle.guest_rounds.specs.Crews.{MayShare};
 ghost use Rattle.guest_rounds.specs.NextStarts.{AreOfGuest, next_start};
 ghost use Rattle.round_schedule.specs.Bounds.{AreWorkers};
 
 use crate::crew::{Crew, MANY_LINES};
 use crate::guest::GuestState;
-use crate::parallel::set_quotas;
+use crate::parallel::{set_quotas, take_ends};
 use hart_rounds::{HartEnd, LogForm};
-use hart_step::{DecodedCode, Hart};
-use lasting_workers::{Board, BorrowedStart, History, PostedStart, RunStarts};
+use hart_step::{Access, DecodedCode, Hart};
+use lasting_workers::{Board, BorrowedStart, PostedStart};
 use pages::{OutOfMemory, Pages};
-use parallel_phase::Open;
+use parallel_phase::{HartRound, Open, RunStarts};
 use round_planner::Plan;
+use run_book::Seat;
 use serial_phase::SharedState;
 use std::alloc::Global;
 use std::mem;
@@ -25,17 +27,30 @@ pub struct LastingCrew<'a, S: RunStarts, R> {
     pub crew: Crew<'a, Open, R>,
     /// Where the starts of rounds are posted.
     board: &'a Board<S>,
-    /// The history of the round before, for its capacity.
-    history: History<S>,
+    /// The calling thread's seat at the book of the run: it ends the rounds.
+    seat: Seat<HartRound<S>>,
+    /// An empty list, which takes the place of the next history.
+    blank: Vec<HartRound<S>>,
+    /// Room for the accesses of one hart's round at a time.
+    room: Vec<Access>,
     /// What stands in the guest while the workers hold what they borrow of it.
     stand_in: Option<BorrowedStart>,
     ghost within: { AreWorkers crew.workers },
 }
 
 impl<'a, S: RunStarts, R> LastingCrew<'a, S, R> {
-    /// A crew that shares rounds by this board.
-    pub fn new(rt: &'a R, board: &'a Board<S>, form: LogForm) -> LastingCrew<'a, S, R>
-        ensures { result.crew.form ≡ form }
+    /// A crew that shares rounds by this board, with the seat of the calling thread. This takes no memory.
+    pub fn new(
+        rt: &'a R,
+        alloc: Global,
+        board: &'a Board<S>,
+        seat: Seat<HartRound<S>>,
+        form: LogForm,
+    ) -> LastingCrew<'a, S, R>
+        ensures form { result.crew.form ≡ form }
+        ensures board { result.board.now ≡ board.now }
+        ensures seat { result.seat ≡ seat }
+        ensures blank { result.blank.items ≡ [] }
     {
         LastingCrew {
             crew: Crew {
@@ -46,7 +61,9 @@ impl<'a, S: RunStarts, R> LastingCrew<'a, S, R> {
                 form,
             },
             board,
-            history: board.history(),
+            seat,
+            blank: Vec::new(alloc),
+            room: Vec::new(alloc),
             stand_in: None,
         }
     }
@@ -56,6 +73,8 @@ impl<'a, S: RunStarts, R> LastingCrew<'a, S, R> {
         ensures sized { IfOk result (λ p. length p.quotas.items ≡ harts) }
         ensures form { IfOk result (λ p. p.form ≡ self.old.crew.form) }
         ensures crew { self.new.crew.form ≡ self.old.crew.form }
+        ensures kept { (self.new.board.now.book ≡ self.old.board.now.book) ×
+            (self.new.seat ≡ self.old.seat) × (self.new.blank.items ≡ self.old.blank.items) }
     {
         let form = self.crew.form;
         let Some(mut borrowed) = self.stand_in.take() else {
@@ -117,16 +136,22 @@ impl<S: RunStarts, R: Wait> LastingCrew<'_, S, R> {
         plan: &Plan,
         done: u32,
     ) -> Result<Vec<HartEnd>, OutOfMemory>
-        requires start { S.starts (done + 1) ≡
+        requires start { S.starts done ≡
             next_start (keeps_log self.old.crew.form) plan.now done guest.old }
         requires harts { length guest.old.harts ≡ plan.now.harts }
         requires done { done + 1 < 2 ^ 32 }
+        requires may { MayShare done plan.now.harts self.old.board.now.book self.old.seat
+            self.old.blank.items }
         ensures guest { guest.new ≡ guest.old }
         ensures form { self.new.crew.form ≡ self.old.crew.form }
         ensures whole { IfOk result (λ os. IsWholeHistory (next_start
             (keeps_log self.old.crew.form) plan.now done guest.old) os.items) }
         ensures ends { IfOk result (λ os.
             AreOfGuest (keeps_log self.old.crew.form) plan.now done guest.old os.items) }
+        ensures may { IfOk result (λ _. MayShare (done + 1) plan.now.harts self.new.board.now.book
+            self.new.seat self.new.blank.items) }
+        ensures gathered { IfOk result (λ _. HasGatheredRounds (done ∷ []) plan.now.harts
+            self.old.seat self.new.seat) }
     {
         let alloc = guest.shared.pages.allocator();
         // At most 64.
@@ -135,10 +160,9 @@ impl<S: RunStarts, R: Wait> LastingCrew<'_, S, R> {
         let mut spare = guest.spare.take_ends(alloc);
         // The round before has what it left until here: two rounds' stores would be in memory at once.
         spare.clear();
-        let round = done + 1;
-        set_quotas(plan, round, borrowed.quotas.as_mut_slice());
+        set_quotas(plan, done + 1, borrowed.quotas.as_mut_slice());
         swap_borrowed(&mut guest.harts, &mut guest.shared, &mut borrowed);
-        let start = PostedStart::new(round, borrowed);
+        let start = PostedStart::new(done, borrowed);
         let (start, ends) = self.share(start, spare);
         let mut borrowed = start.into_borrowed();
         swap_borrowed(&mut guest.harts, &mut guest.shared, &mut borrowed);
@@ -153,18 +177,31 @@ impl<S: RunStarts, R: Wait> LastingCrew<'_, S, R> {
         spare: Vec<HartEnd>,
     ) -> (PostedStart<S>, Result<Vec<HartEnd>, OutOfMemory>)
         requires empty { spare.items ≡ [] }
+        requires done { start.done + 1 < 2 ^ 32 }
+        requires may { MayShare start.done (length start.borrowed.harts.items)
+            self.old.board.now.book self.old.seat self.old.blank.items }
         ensures start { result.0 ≡ start }
-        ensures whole { IfOk result.1 (λ os. IsWholeHistory (S.starts start.round) os.items) }
+        ensures whole { IfOk result.1 (λ os. IsWholeHistory (S.starts start.done) os.items) }
         ensures form { self.new.crew.form ≡ self.old.crew.form }
+        ensures may { IfOk result.1 (λ _. MayShare (start.done + 1)
+            (length start.borrowed.harts.items) self.new.board.now.book self.new.seat
+            self.new.blank.items) }
+        ensures gathered { IfOk result.1 (λ _. HasGatheredRounds (start.done ∷ [])
+            (length start.borrowed.harts.items) self.old.seat self.new.seat) }
     {
-        let (start, whole) = self.board.share(self.crew.rt, start, &mut self.history);
-        let ends = match whole {
-            Ok(()) => self.history.take_ends(spare),
-            Err(refused) => {
-                drop(spare);
-                Err(refused)
-            }
+        let alloc = start.borrowed.pages.allocator();
+        let mut blank = mem::replace(&mut self.blank, Vec::new(alloc));
+        if blank.reserve(self.board.book.harts() as usize).is_err() {
+            return (start, Err(OutOfMemory));
+        }
+        let (start, history) = self
+            .board
+            .share(self.crew.rt, start, &mut self.seat, blank, &mut self.room);
+        let Some(mut history) = history else {
+            return (start, Err(OutOfMemory));
         };
+        let ends = take_ends(&start.lent(), start.done, &mut history, spare);
+        self.blank = history;
         (start, ends)
     }
 }

@@ -18,7 +18,6 @@ mod tally;
 
 pub use committing::commit;
 pub use crew::{Crew, MANY_LINES};
-pub use events::turns_needed;
 pub use guest::GuestState;
 pub use half_round::HalfRound;
 pub use keeper::{EventKeeper, NoTrace};

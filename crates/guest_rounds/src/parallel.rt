@@ -1,11 +1,12 @@
 //! The parallel phase of a guest's round: the rounds of all harts, and what they left.
 
-ghost use Rattle.std.specs.Prelude.{◌≡◌, ◌<◌, ◌≤◌, ◌-◌, ℕ, [], IfOk, OnOk, length, slice_index, vec_capacity};
+ghost use Rattle.std.specs.Prelude.{◌≡◌, ◌<◌, ◌≤◌, ◌-◌, ℕ, [], IfOk, OnOk, length, slice_index};
 ghost use Rattle.round_schedule.specs.Schedule.{hart_rounds};
 ghost use Rattle.round_planner.specs.Quotas.{quota_of, quotas_of};
 ghost use Rattle.hart_step.specs.Words.{words_of};
 ghost use Rattle.hart_rounds.specs.Starts.{keeps_log, rounds_of};
 ghost use Rattle.guest_rounds.specs.HartEnds.{AreAtRest, AreEndsOf, StoppedStay, harts_of};
+ghost use Rattle.parallel_phase.specs.Rounds.{IsWholeHistory, IsWholeRound};
 ghost use Rattle.round_schedule.specs.Bounds.{AreWorkers};
 
 use crate::crew::Crew;
@@ -13,7 +14,7 @@ use crate::spare_lists::SpareLists;
 use hart_rounds::{HartEnd, RoundStart, round_in_place};
 use hart_step::{Access, Hart};
 use pages::OutOfMemory;
-use parallel_phase::{BookStart, Gate, gather};
+use parallel_phase::{Gate, HartRound, RunStarts, gather, place_ends};
 use round_planner::Plan;
 use serial_phase::SharedState;
 use std::marker::Brand;
@@ -51,14 +52,14 @@ pub(crate) fn parallel<G: Gate + Sync, R: Threads + Wait + Sync>(
     parallel_from::<Brand, G, R>(crew, &start, spare)
 }
 
-/// The same from a start that is tied to the book of the round. A lone worker needs no book.
-fn parallel_from<B: BookStart + Send + Sync, G: Gate + Sync, R: Threads + Wait + Sync>(
+/// The same from a start that is tied to the book of the round, which is its first. A lone worker needs no book.
+fn parallel_from<S: RunStarts + Send + Sync, G: Gate + Sync, R: Threads + Wait + Sync>(
     crew: &Crew<'_, G, R>,
     start: &RoundStart<'_>,
     spare: &mut SpareLists,
 ) -> Result<Vec<HartEnd>, OutOfMemory>
     requires workers { AreWorkers crew.now.workers }
-    requires start { start.now ≡ B.start }
+    requires start { start.now ≡ S.starts 0 }
     requires sized { length start.now.quotas ≡ length start.now.harts }
     requires kept { StoppedStay start.now.harts (harts_of spare.old.ends.items) }
     ensures taken { spare.new.ends.items ≡ [] }
@@ -70,8 +71,7 @@ fn parallel_from<B: BookStart + Send + Sync, G: Gate + Sync, R: Threads + Wait +
         return parallel_alone(crew.gate, start, ends, &mut spare.accesses);
     }
     ends.clear();
-    ends.reserve(start.harts().len())?;
-    gather_ends::<B, G, R>(crew, start, ends)
+    gather_ends::<S, G, R>(crew, start, ends)
 }
 
 /// Does the rounds of all harts on the calling thread, in hart order, each in the place of what an earlier round of the hart left.
@@ -144,28 +144,41 @@ fn rounds_in_place<G: Gate>(
 }
 
 /// Gathers the rounds of all harts, and puts what they left in hart order.
-fn gather_ends<B: BookStart + Send + Sync, G: Gate + Sync, R: Threads + Wait + Sync>(
+fn gather_ends<S: RunStarts + Send + Sync, G: Gate + Sync, R: Threads + Wait + Sync>(
     crew: &Crew<'_, G, R>,
     start: &RoundStart<'_>,
-    mut ends: Vec<HartEnd>,
+    ends: Vec<HartEnd>,
 ) -> Result<Vec<HartEnd>, OutOfMemory>
     requires workers { AreWorkers crew.now.workers }
-    requires start { start.now ≡ B.start }
-    requires sized { length start.now.quotas ≡ length start.now.harts }
+    requires start { start.now ≡ S.starts 0 }
     requires empty { ends.items ≡ [] }
-    requires room { length start.now.harts ≤ vec_capacity ends }
     ensures { IfOk result (λ os.
         AreEndsOf start.now.logs start.now.memory (rounds_of start.now) os.items) }
 {
-    let mut gathered = gather::<B, G, R>(crew.rt, start, crew.workers, crew.gate)?;
-    for number in 0..start.harts().len() {
-        // The history is complete.
-        let Some(round) = gathered.take(number as u32) else {
-            unreachable!()
-        };
-        ends.push_reserved(round.into_end());
-    }
-    drop(gathered);
+    let mut history = gather::<S, G, R>(crew.rt, start, crew.workers, crew.gate)?;
+    let ends = take_ends(start, 0, &mut history, ends);
+    drop(history);
+    ends
+}
+
+/// What the rounds of a whole history left, in hart order, in an empty list that is taken for its capacity. The history stays, empty,
+/// for its own.
+pub(crate) fn take_ends<S: RunStarts>(
+    start: &RoundStart<'_>,
+    round: u32,
+    history: &mut Vec<HartRound<S>>,
+    mut ends: Vec<HartEnd>,
+) -> Result<Vec<HartEnd>, OutOfMemory>
+    requires whole { IsWholeRound round (length start.now.harts) history.old.items }
+    requires start { start.now ≡ S.starts round }
+    requires empty { ends.items ≡ [] }
+    ensures ends { IfOk result (λ os. IsWholeHistory start.now os.items) }
+    ensures emptied { OnOk result (history.new.items ≡ []) }
+{
+    // At most 64.
+    let _harts = start.harts().len();
+    make_as_many(start, &mut ends)?;
+    place_ends(round, history, ends.as_mut_slice());
     Ok(ends)
 }
 

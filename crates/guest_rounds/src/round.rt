@@ -6,7 +6,7 @@ ghost use Rattle.round_planner.specs.Quotas.{quotas_of};
 ghost use Rattle.hart_step.specs.declared.hart.Hart.{Hart};
 ghost use Rattle.hart_step.specs.Words.{words_of};
 ghost use Rattle.hart_rounds.specs.Starts.{keeps_log};
-ghost use Rattle.lasting_workers.specs.Histories.{IsWholeHistory};
+ghost use Rattle.parallel_phase.specs.Rounds.{IsWholeHistory};
 ghost use Rattle.guest_rounds.specs.Guests.{guest_events, guest_of, next_guest, shared_of};
 ghost use Rattle.guest_rounds.specs.Held.{most_of_round};
 ghost use Rattle.guest_rounds.specs.NextStarts.{AreOfGuest, next_start};

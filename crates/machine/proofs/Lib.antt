@@ -6,4 +6,6 @@ pub mod TracedMachine
 pub mod TracedRun
 pub mod NumberedStarts
 pub mod Walked
+pub mod Gathered
+pub mod SeatsLeft
 pub mod Answered

@@ -11,7 +11,7 @@ use Rattle.elf_loader.specs.Image.{Loaded}
 use Rattle.guest_rounds.specs.Guests.{Guest, opening_guest}
 use Rattle.machine.specs.Machine.{opening}
 use Rattle.guest_rounds.specs.Opening.{opening_hart, opening_harts}
-use Rattle.machine.specs.Untraced.{IsUntraced, untraced_of}
+use Rattle.machine.specs.Untraced.{IsUntraced, Untraced, untraced_of}
 use Rattle.guest_rounds.proofs.TraceHolds.{placed_first}
 use Rattle.machine.proofs.UntracedRounds.{no_trace}
 
@@ -31,9 +31,8 @@ pub none_stopped : (e n i k : ℕ) → All (λ (h : Hart). has_stop h.stop ≡ t
 none_stopped e n i zero = λ j d l. absurd (omega (arith, l))
 none_stopped e n i (suc k) = All-cons (λ (h : Hart). has_stop h.stop ≡ true) (opening_hart e n i) (opening_harts e n (suc i) k) refl (none_stopped e n (suc i) k)
 
--- it is the machine of a run that has not begun, without its trace
-pub opened : (image : Loaded) (input : List ℕ) (plan : Planned) (n : ℕ) (g : Guest) → n ≡ plan.harts → g ≡ opening_guest image input n → IsUntraced (opening image input plan) (untraced_of g plan 0 0)
-opened image input plan n g same e = subst (λ (x : Guest). IsUntraced (opening image input plan) (untraced_of x plan 0 0)) (sym e) (record {
+first_of : (image : Loaded) (input : List ℕ) (plan : Planned) (n : ℕ) (g : Guest) → n ≡ plan.harts → g ≡ opening_guest image input n → IsUntraced (opening image input plan) (untraced_of g plan 0 0)
+first_of image input plan n g same e = subst (λ (x : Guest). IsUntraced (opening image input plan) (untraced_of x plan 0 0)) (sym e) (record {
   harts = ap (λ (k : ℕ). opening_harts image.entry k 0 k) same;
   bytes = refl;
   console = refl;
@@ -46,3 +45,7 @@ opened image input plan n g same e = subst (λ (x : Guest). IsUntraced (opening 
   placed = placed_first image.entry plan.harts 0 plan.harts;
   stops = none_stopped image.entry plan.harts 0 plan.harts;
 })
+
+-- it is the machine of a run that has not begun, without its trace
+pub opened : (image : Loaded) (input : List ℕ) (plan : Planned) (n : ℕ) (g : Guest) (u : Untraced) → n ≡ plan.harts → g ≡ opening_guest image input n → u ≡ untraced_of g plan 0 0 → IsUntraced (opening image input plan) u
+opened image input plan n g u same e is = subst (λ (x : Untraced). IsUntraced (opening image input plan) x) (sym is) (first_of image input plan n g same e)

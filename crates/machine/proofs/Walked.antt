@@ -61,7 +61,7 @@ along_next keeps after k u v w (inl x) still (inr y) = inr y
 along_next keeps after k u v w (inr s) still y = inr (still s)
 
 pub starts_along : (logs : Bool) (starts : ℕ → Start) (k : ℕ) (u v : Untraced) → ((n : ℕ) → starts n ≡ start_at logs u n) → v.rounds ≡ u.rounds + k → IsAlong k u v →
-    (starts (v.rounds + 1) ≡ next_start_of logs v) ⊎ HasStopped v
+    (starts v.rounds ≡ next_start_of logs v) ⊎ HasStopped v
 starts_along logs starts k u v f at (inl x) = inl (starts_there logs starts k u v f x at)
 starts_along logs starts k u v f at (inr s) = inr s
 

@@ -1,5 +1,5 @@
 -- What the rounds of a run start from, by their numbers, and what they leave.
-use Rattle.std.specs.Prelude.{Bool, ℕ, zero, suc, ◌+◌, ◌-◌, List}
+use Rattle.std.specs.Prelude.{Bool, ℕ, zero, suc, ◌-◌, List}
 use Rattle.hart_rounds.specs.Starts.{Start}
 use Rattle.hart_rounds.specs.declared.hart_end.HartEnd.{HartEnd}
 use Rattle.guest_rounds.specs.Guests.{Guest}
@@ -19,9 +19,9 @@ untraced_rounds (suc n) u = untraced_round (untraced_rounds n u)
 abbrev pub next_start_of : Bool → Untraced → Start
 next_start_of logs u = next_start logs u.plan u.rounds (guest_in u)
 
--- the start of each of the next rounds, by the round's number
+-- the start of each of the next rounds, by how many rounds were done before it
 abbrev pub start_at : Bool → Untraced → ℕ → Start
-start_at logs u round = next_start_of logs (untraced_rounds (round - (u.rounds + 1)) u)
+start_at logs u done = next_start_of logs (untraced_rounds (done - u.rounds) u)
 
 -- the same of a machine's next round
 abbrev pub AreOfNext : Bool → Untraced → List HartEnd → Type 0

@@ -1,8 +1,13 @@
 -- What is known of a run after each of its rounds.
-use Rattle.std.specs.Prelude.{◌≡◌, ℕ, ◌+◌, ◌<◌, ◌≤◌, ◌⊎◌, true, List, length, Result, MatchResult}
+use Rattle.std.specs.Prelude.{◌≡◌, ℕ, ◌+◌, ◌<◌, ◌≤◌, ◌⊎◌, true, All, List, length, Option, Some, Result, MatchResult}
 use Rattle.round_schedule.specs.declared.event.Event.{Event}
+use Rattle.run_book.specs.Known.{Bound, Known}
+use Rattle.parallel_phase.specs.declared.claimed_round.HartRound.{HartRound}
+use Rattle.parallel_phase.specs.declared.run_starts.RunStarts.{Ghosts}
+use Rattle.parallel_phase.specs.Rounds.{HasGatheredRounds, IsCaller, IsWorker}
 use Rattle.machine.specs.Machine.{count_stopped}
 use Rattle.machine.specs.Untraced.{HasRun, IsAfter, MayGoOn, Untraced}
+use Rattle.machine.specs.declared.walks.Seats.{Seats}
 use Rattle.machine.specs.declared.walks.Walked.{Walked}
 
 -- so many rounds of a run that began so have led there
@@ -39,6 +44,24 @@ MayWalk may_keep keeps n u = ((es : List Event) × keeps es × MayGoOn may_keep 
 abbrev pub HasWalked : {E : Type 0} → Result Walked E → Type 0 → ℕ → Untraced → Untraced → (List Event → Type 0) → (List Event → Type 0) → Type 0
 HasWalked r may_fail n u v before after =
     MatchResult r (λ w. (w.rounds ≤ n) × HasRun w.rounds u v before after) (λ _. (k : ℕ) × IsCutOff may_fail n k × HasRun k u v before after)
+
+-- so many of the rounds between these machines were shared: the seat of the calling thread has seen the history of each of these, which stood
+-- under the lock of the run's book and is whole, behind what it had seen, and nothing else
+pub record HasShared {b : _} {g : Ghosts b} (shared harts : ℕ) (u v : Untraced) (k l : Known (HartRound b g)) : Type 0 where
+  pub rounds : List ℕ
+  pub count : length rounds ≡ shared
+  pub within : All (λ (n : ℕ). (u.rounds ≤ n) × (n < v.rounds)) rounds
+  pub gathered : HasGatheredRounds rounds harts k l
+
+-- the seats of a book: that of the calling thread, before the first round, and those of the other workers
+pub record AreSeats {b : _} {g : Ghosts b} (book : Bound) (seats : Seats b g) : Type 0 where
+  pub own : IsCaller book.table book.harts seats.own
+  pub first : seats.own.round ≡ 0
+  pub others : All (IsWorker book.table book.harts) seats.others.items
+
+-- they are there
+abbrev pub HasSeats : {b : _} {g : Ghosts b} → Bound → Option (Seats b g) → Type 0
+HasSeats {b} {g} book seats = (s : Seats b g) × (seats ≡ Some s) × AreSeats book s
 
 -- it ended after all its n rounds, or as the visitor has enough, or before a round that is worth more workers, where there may be several
 abbrev pub HasEnded : Walked → ℕ → ℕ → Type 0 → Type 0

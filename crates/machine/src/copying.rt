@@ -10,7 +10,7 @@ use host_io::RunError;
 impl Machine {
     /// A machine that is equal to this one.
     ///
-    /// Pages that were written to are copied; of the trace, most is shared. The words of the code are decoded anew.
+    /// Pages that were written to are copied; of the trace, most is shared. The decoded words of the code are copied.
     ///
     /// # Errors
     ///
@@ -27,7 +27,7 @@ impl Machine {
     /// A machine that is equal to this one and shares its pages: each of the two gets its own of a page when it writes there.
     ///
     /// So it takes no memory for a page that was not written to since this machine last shared its pages. Of the trace, most is
-    /// shared. The words of the code are decoded anew.
+    /// shared. The decoded words of the code are copied.
     ///
     /// # Errors
     ///
@@ -44,7 +44,7 @@ impl Machine {
 
     /// The machine of the same run without its trace.
     ///
-    /// Pages that were written to are copied. The words of the code are decoded anew.
+    /// Pages that were written to are copied. The decoded words of the code are copied.
     ///
     /// # Errors
     ///
@@ -60,7 +60,7 @@ impl Machine {
 impl UntracedMachine {
     /// A machine that is equal to this one.
     ///
-    /// Pages that were written to are copied. The words of the code are decoded anew.
+    /// Pages that were written to are copied. The decoded words of the code are copied.
     ///
     /// # Errors
     ///
@@ -74,7 +74,7 @@ impl UntracedMachine {
 
     /// A machine that is equal to this one and shares its pages: each of the two gets its own of a page when it writes there.
     ///
-    /// The words of the code are decoded anew.
+    /// The decoded words of the code are copied.
     ///
     /// # Errors
     ///

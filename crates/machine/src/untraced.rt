@@ -9,6 +9,7 @@ use elf_loader::Image;
 use guest_rounds::GuestState;
 use hart_step::Hart;
 use host_io::RunError;
+use laid_image::LaidImage;
 use lasting_workers::RoundWork;
 use pages::Pages;
 use round_planner::Plan;
@@ -101,13 +102,39 @@ impl UntracedMachine {
         ensures refused { IfErr result (λ e. e ≡ refusals.OutOfMemory) }
     {
         let guest = GuestState::open(alloc, image, input, plan.harts())?;
-        Ok(UntracedMachine {
+        Ok(UntracedMachine::begin(guest, plan))
+    }
+
+    /// The same of an image that was laid into memory: the machines that it opens share what its pages hold.
+    ///
+    /// # Errors
+    ///
+    /// `OutOfMemory` alone.
+    pub fn open_laid(
+        alloc: Global,
+        laid: &LaidImage,
+        input: Vec<u8>,
+        plan: Plan,
+    ) -> Result<UntracedMachine, RunError>
+        ensures machine { IfOk result (λ u. IsUntraced (opening laid.now input.items plan) u) }
+        ensures refused { IfErr result (λ e. e ≡ refusals.OutOfMemory) }
+    {
+        let guest = GuestState::open_laid(alloc, laid, input, plan.harts())?;
+        Ok(UntracedMachine::begin(guest, plan))
+    }
+
+    /// The machine of a guest before the first round under a plan for its harts.
+    fn begin(guest: GuestState, plan: Plan) -> UntracedMachine
+        requires { length guest.harts ≡ plan.harts }
+        ensures { result ≡ untraced_of guest plan 0 0 }
+    {
+        UntracedMachine {
             guest,
             plan,
             rounds: 0,
             events: 0,
             work: RoundWork::unknown(),
-        })
+        }
     }
 
     /// The harts, in hart order. One that has stopped did so with a code of 1 to 10, and with a value in the exit call alone.

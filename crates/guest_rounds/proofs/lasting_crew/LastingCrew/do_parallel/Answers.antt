@@ -2,11 +2,12 @@ use Rattle.std.proofs.Common.{◌≡◌, ◌+◌, ◌++◌, length, take, drop, 
 use Rattle.std.proofs.lemmas.List.{take_at}
 use Rattle.std.proofs.lemmas.Result.{IfOk-weaker}
 use Rattle.lasting_workers.specs.declared.borrowed_start.BorrowedStart.{BorrowedStart}
-use Rattle.lasting_workers.specs.Histories.{IsWholeHistory}
+use Rattle.parallel_phase.specs.Rounds.{IsWholeHistory}
 use Rattle.hart_rounds.specs.Starts.{Start, keeps_log}
 use Rattle.guest_rounds.specs.Guests.{Guest}
 use Rattle.guest_rounds.specs.NextStarts.{next_start}
 use Rattle.guest_rounds.proofs.NextStarts.{quotas_set, same_start}
+use Rattle.guest_rounds.proofs.Sharing.{gathered_as, may_as}
 use Rattle.guest_rounds.proofs.WholeHistories.{of_whole}
 use Rattle.guest_rounds.proofs.lasting_crew.LastingCrew.do_parallel.Goals as goal
 
@@ -28,9 +29,23 @@ new-start-requires-clause-start g c =
 
 pub returns-clause-whole : goal.returns-clause-whole
 returns-clause-whole g c =
-    IfOk-weaker c.share-start.result.1 _ _ (λ os whole. subst (λ (s : Start). IsWholeHistory s os.items) (ap g.S.RunStarts.starts c.new-start.ensures.round ∙ c.requires.start) whole) c.share-start.ensures.whole
+    IfOk-weaker c.share-start.result.1 _ _ (λ os whole. subst (λ (s : Start). IsWholeHistory s os.items) (ap g.S.RunStarts.starts c.new-start.ensures.done ∙ c.requires.start) whole) c.share-start.ensures.whole
 
 pub returns-clause-ends : goal.returns-clause-ends
 returns-clause-ends g c =
     IfOk-weaker c.share-start.result.1 _ _ (λ os whole. of_whole (keeps_log c.args.self.now.crew.form) c.args.plan.now c.args.done c.args.guest.now os.items
-    (subst (λ (s : Start). IsWholeHistory s os.items) (ap g.S.RunStarts.starts c.new-start.ensures.round ∙ c.requires.start) whole)) c.share-start.ensures.whole
+    (subst (λ (s : Start). IsWholeHistory s os.items) (ap g.S.RunStarts.starts c.new-start.ensures.done ∙ c.requires.start) whole)) c.share-start.ensures.whole
+
+pub share-start-requires-clause-may : goal.share-start-requires-clause-may
+share-start-requires-clause-may g c =
+    let k = c.in_ok-borrowed.ensures.kept in
+    let many = ap (λ (p : BorrowedStart). length p.harts.items) (c.new-start.ensures.borrowed ∙ c.swap_borrowed.ensures.borrowed) ∙ (ap (λ (x : Guest). length x.harts) c.guest.view_is ∙ c.requires.harts) in
+    may_as c.args.done c.new-start.result.done c.args.plan.now.harts (length c.new-start.result.borrowed.harts.items) c.args.self.now.board.now.book c.take_stand_in.new.self.board.now.book c.args.self.now.seat c.take_stand_in.new.self.seat
+    c.args.self.now.blank.items c.take_stand_in.new.self.blank.items (sym c.new-start.ensures.done) (sym many) (sym k.0) (sym k.1) (sym k.2) c.requires.may
+
+pub returns-clause-gathered : goal.returns-clause-gathered
+returns-clause-gathered g c =
+    let k = c.in_ok-borrowed.ensures.kept in
+    let many = ap (λ (p : BorrowedStart). length p.harts.items) (c.new-start.ensures.borrowed ∙ c.swap_borrowed.ensures.borrowed) ∙ (ap (λ (x : Guest). length x.harts) c.guest.view_is ∙ c.requires.harts) in
+    IfOk-weaker c.share-start.result.1 _ _ (λ os has. gathered_as c.new-start.result.done c.args.done (length c.new-start.result.borrowed.harts.items) c.args.plan.now.harts c.take_stand_in.new.self.seat c.args.self.now.seat c.share-start.new.self.seat
+    c.new-start.ensures.done many k.1 has) c.share-start.ensures.gathered

@@ -1,5 +1,4 @@
-use Rattle.std.proofs.lemmas.Result.{IfOk-weaker}
-use Rattle.std.proofs.Common.{◌≡◌, ◌+◌, ◌-◌, ◌^◌, ◌≤◌, List, refl, ap, ◌∙◌, subst, arith}
+use Rattle.std.proofs.Common.{◌≡◌, List, refl, ap, ◌∙◌, subst}
 use Rattle.round_schedule.specs.declared.event.Event.{Event}
 use Rattle.trace.specs.Traced.{Traced}
 use Rattle.machine.specs.Answers.{AnswersRun}

@@ -1,14 +1,11 @@
-use Rattle.std.proofs.Common.{length, ap, ◌∙◌, arith}
+use Rattle.std.proofs.Common.{length, ap, ◌∙◌}
 use Rattle.guest_rounds.specs.Guests.{Guest}
 use Rattle.guest_rounds.proofs.OpeningGuest.{length-opening}
 use Rattle.machine.proofs.Opened.{opened}
 use Rattle.machine.proofs.untraced.UntracedMachine.open.Goals as goal
 
-pub invariant_of-result : goal.invariant_of-result
-invariant_of-result c = record {
-  harts = ap (λ (g : Guest). length g.harts) c.in_ok-guest.ensures ∙ length-opening _ c.harts.result 0 c.harts.result ∙ c.harts.ensures.harts;
-  few = omega arith;
-}
+pub begin-requires : goal.begin-requires
+begin-requires c = ap (λ (g : Guest). length g.harts) c.in_ok-guest.ensures ∙ length-opening _ c.harts.result 0 c.harts.result ∙ c.harts.ensures.harts
 
 pub returns-clause-machine : goal.returns-clause-machine
-returns-clause-machine c = opened c.args.image.now c.args.input.items c.args.plan c.harts.result c.in_ok-guest.guest c.harts.ensures.harts c.in_ok-guest.ensures
+returns-clause-machine c = opened c.args.image.now c.args.input.items c.args.plan c.harts.result c.in_ok-guest.guest c.begin.result c.harts.ensures.harts c.in_ok-guest.ensures c.begin.ensures

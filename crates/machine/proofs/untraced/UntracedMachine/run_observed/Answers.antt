@@ -1,5 +1,4 @@
 use Rattle.std.proofs.Common.{[]}
-use Rattle.machine.specs.Untraced.{HasRun}
 use Rattle.machine.proofs.UntracedRounds.{nothing_to_keep}
 use Rattle.machine.proofs.Answered.{answers_weaker}
 use Rattle.machine.proofs.untraced.UntracedMachine.run_observed.Goals as goal

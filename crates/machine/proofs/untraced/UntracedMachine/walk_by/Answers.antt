@@ -1,7 +1,10 @@
-use Rattle.std.proofs.Common.{◌≡◌, ◌+◌, ◌-◌, ◌∙◌, ℕ, inl, inr, refl, ap, subst, arith, rules, Err}
+use Rattle.std.proofs.Common.{◌≡◌, ◌+◌, ◌-◌, ◌∙◌, ℕ, inl, inr, refl, sym, ap, subst, arith, rules, Err}
+use Rattle.round_planner.specs.Quotas.{Planned}
 use Rattle.hart_rounds.specs.Starts.{keeps_log}
+use Rattle.guest_rounds.specs.Crews.{MayShare}
 use Rattle.machine.specs.Untraced.{HasRun}
 use Rattle.machine.specs.Walks.{MayWalk}
+use Rattle.machine.proofs.Gathered.{none_shared, shared_few, shared_then}
 use Rattle.machine.proofs.UntracedRounds.{none_run, then_run}
 use Rattle.machine.proofs.Walked.{along_next, has_done, is_shown, learned_next, may_walk_on, may_walk_round, none_learned, starts_along}
 use Rattle.machine.proofs.untraced.UntracedMachine.walk_by.Goals as goal
@@ -16,6 +19,10 @@ loop-done-init g c =
       along = inl refl;
       form = c.requires.form;
       known = none_learned g.V.Visitor.knows c.args.stretch.rounds c.args.self.now c.args.visitor.now;
+      plan = refl;
+      may = c.requires.may;
+      few = omega arith;
+      gathered = none_shared c.args.self.now.plan.harts c.args.self.now c.args.self.now c.args.crew.now.seat;
     }
 
 pub walk_round-requires-clause-rounds : goal.walk_round-requires-clause-rounds
@@ -82,6 +89,13 @@ returns-in-Enough-clause-known g c =
     learned_next g.V.Visitor.knows c.args.stretch.rounds c.loop-done.done c.args.self.now c.walk_round.new.self c.args.visitor.now c.loop-done.visitor c.after_round.new.self c.loop-done-test.true i.known
     (has_done (c.loop-done.done + 1) c.args.self.now c.walk_round.new.self before after all) c.in_ok-after_round.ensures.known
 
+pub returns-in-Enough-clause-gathered : goal.returns-in-Enough-clause-gathered
+returns-in-Enough-clause-gathered g c =
+    let i = c.loop-done.invariant in
+    let one = c.in_ok-walk_round.ensures in
+    shared_then c.loop-done.shared c.args.self.now.plan.harts c.loop-done.self.plan.harts c.from-shared.result c.shares_next-shares.result c.args.self.now c.loop-done.self c.walk_round.new.self c.args.crew.now.seat c.loop-done.crew.seat
+    c.walk_round.new.crew.seat (ap (λ (p : Planned). p.harts) i.plan) c.from-shared.ensures (omega (arith, i.run.rounds)) one.ran.rounds i.gathered one.gathered
+
 pub loop-done-preserved : goal.loop-done-preserved
 loop-done-preserved g c =
     let i = c.loop-done.invariant in
@@ -98,6 +112,11 @@ loop-done-preserved g c =
       form = ap keeps_log one.form ∙ i.form;
       known = learned_next g.V.Visitor.knows c.args.stretch.rounds c.loop-done.done c.args.self.now c.walk_round.new.self c.args.visitor.now c.loop-done.visitor c.after_round.new.self c.loop-done-test.true i.known
           (has_done (c.loop-done.done + 1) c.args.self.now c.walk_round.new.self before after all) c.in_ok-after_round.ensures.known;
+      plan = one.plan ∙ i.plan;
+      may = subst (λ (p : Planned). MayShare c.walk_round.new.self.rounds p.harts c.walk_round.new.crew.board.now.book c.walk_round.new.crew.seat c.walk_round.new.crew.blank.items) (sym one.plan) one.may;
+      few = shared_few c.loop-done.shared c.loop-done.done c.from-shared.result c.shares_next-shares.result c.from-shared.ensures i.few;
+      gathered = shared_then c.loop-done.shared c.args.self.now.plan.harts c.loop-done.self.plan.harts c.from-shared.result c.shares_next-shares.result c.args.self.now c.loop-done.self c.walk_round.new.self c.args.crew.now.seat c.loop-done.crew.seat
+          c.walk_round.new.crew.seat (ap (λ (p : Planned). p.harts) i.plan) c.from-shared.ensures (omega (arith, i.run.rounds)) one.ran.rounds i.gathered one.gathered;
     }
 
 pub returns-clause-walked : goal.returns-clause-walked
