@@ -11,33 +11,30 @@ use Rattle.commit_phase.specs.Commit.{Committed}
 use Rattle.hart_step.specs.declared.hart.Hart.{Hart}
 use Rattle.hart_step.specs.Console.{ConsoleState}
 use Rattle.hart_step.specs.Numbers.{minus}
-use Rattle.hart_step.specs.Room.{HasSpares}
 use Rattle.hart_step.specs.Words.{words_of}
 use Rattle.moments.specs.Sights.{Sight}
 use Rattle.serial_phase.specs.Phase.{HasBytes, TakesTurn, turn_done}
 use Rattle.serial_phase.specs.Roomed.{HasRoom, Roomed}
-use Rattle.serial_phase.specs.Turns.{Turns}
 use Rattle.serial_phase.specs.declared.shared.SharedState.{SharedState}
 use Rattle.serial_phase.specs.declared.shared.Turn.{Turn}
-use Rattle.serial_phase.proofs.ShownCode.{ShowsCode}
 use Rattle.guest_turns.specs.declared.asked_turn.TurnPlace.{TurnPlace}
 use Rattle.hart_rounds.specs.declared.hart_end.HartEnd.{HartEnd}
 use Rattle.guest_rounds.specs.Guests.{Shared}
 use Rattle.guest_turns.specs.Asked.{HadTurns, LeftBy, reserving_turn_begun, found, found_at, found_in, ready_for_turns}
-use Rattle.guest_rounds.specs.HartEnds.{AreEndsOf, turns_of, waits_of}
+use Rattle.guest_rounds.specs.HartEnds.{AreEndsOf, KeepsPages}
 use Rattle.guest_rounds.proofs.EndParts.{hart_is, waits_is}
 
--- ---- room for fewer
-
-pub fewer_spares : (m n : ℕ) (p : Paged) → m ≤ n → HasSpares n p → HasSpares m p
-fewer_spares m n p le h = omega arith
+-- ---- room
 
 pub less_room : (m n : ℕ) (c : Roomed) → m ≤ n → HasRoom n c → HasRoom m c
 less_room m n c le (inl h) = inl (omega arith)
 less_room m n c le (inr h) = inr h
 
-pub same_room : (n m : ℕ) (c : Roomed) → m ≡ n → HasRoom n c → HasRoom m c
-same_room n m c e h = subst (λ (k : ℕ). HasRoom k c) (sym e) h
+-- room may have been made: all else is as it was
+pub record IsAsBefore (s t : SharedState) : Type 0 where
+  pub keeps : KeepsPages s.pages t.pages
+  pub reservations : t.reservations ≡ s.reservations
+  pub console : t.console.console ≡ s.console.console
 
 -- ---- the turns of the harts before
 
@@ -55,10 +52,10 @@ turn_for turn o = record turn { budget = cond o.waits turn.budget 0 }
 abbrev pub next_turn : Turn → Turn
 next_turn turn = record turn { hart = turn.hart + 1 }
 
-turns_more : (turn : Turn) (o : HartEnd) (os : List HartEnd) (s s' u : SharedState) (k : Turns) (shows : ShowsCode s'.pages s'.code) (h : Hart) →
-    TakesTurn (turn_done (turn_for turn o) o.hart s) h s s' → HadTurns (next_turn turn) os (record s' { log = k; shows = shows }) u → HadTurns turn (o ∷ os) s u
-turns_more turn o os s s' u k shows h x y logs m [] c a eb ec et = absurd a
-turns_more turn o os s s' u k shows h x y logs m (r ∷ rs) c a eb ec et =
+turns_more : (turn : Turn) (o : HartEnd) (os : List HartEnd) (s s' u : SharedState) (h : Hart) →
+    TakesTurn (turn_done (turn_for turn o) o.hart s) h s s' → HadTurns (next_turn turn) os s' u → HadTurns turn (o ∷ os) s u
+turns_more turn o os s s' u h x y logs m [] c a eb ec et = absurd a
+turns_more turn o os s s' u h x y logs m (r ∷ rs) c a eb ec et =
     let n = turn.round in
     let first = turn.hart in
     let budget = turn.budget in
@@ -74,8 +71,8 @@ turns_more turn o os s s' u k shows h x y logs m (r ∷ rs) c a eb ec et =
     let x' = subst (λ (z : ReservingTurn Hart ConsoleState). TakesTurn z h s s') same x in
     let z = y logs m rs (reserving_phase_joined c D) a.1 (sym x'.pages.bytes) (sym x'.console) (sym x'.reservations) in
     let next : first + 1 ≡ suc first = omega arith in
-    let w = subst (λ (j : ℕ). LeftBy (reserving_phase_from W budget n j rs (reserving_phase_joined c D)) (record s' { log = k; shows = shows }) u) next
-    (subst (λ (code : List Range). LeftBy (reserving_phase_from (words_of code) budget n (first + 1) rs (reserving_phase_joined c D)) (record s' { log = k; shows = shows }) u) x'.pages.code z) in
+    let w = subst (λ (j : ℕ). LeftBy (reserving_phase_from W budget n j rs (reserving_phase_joined c D)) s' u) next
+    (subst (λ (code : List Range). LeftBy (reserving_phase_from (words_of code) budget n (first + 1) rs (reserving_phase_joined c D)) s' u) x'.pages.code z) in
     record { pages = same_bytes s.pages s'.pages u.pages _ _ x'.pages w.pages; reservations = w.reservations; console = w.console }
 
 -- by the first of a list
@@ -94,23 +91,34 @@ pub none_there : (turn : Turn) (os : List HartEnd) (s : SharedState) → length 
 none_there turn [] s lt = no_turns turn s
 none_there turn (o ∷ os) s lt = absurd (omega (arith, lt))
 
-pub turns_up : (turn of_first : Turn) (o : HartEnd) (os : List HartEnd) (s s' u : SharedState) (k : Turns) (shows : ShowsCode s'.pages s'.code) (h : Hart) → 1 ≤ length os → o ≡ get_or os 0 o → of_first ≡ turn_for turn o →
-    TakesTurn (turn_done of_first o.hart s) h s s' → HadTurns (next_turn turn) (rest os) (record s' { log = k; shows = shows }) u → HadTurns turn os s u
-turns_up turn of_first o [] s s' u k shows h some is e x y = absurd (omega (arith, some))
-turns_up turn of_first o (v ∷ os) s s' u k shows h some is e x y =
-    let x1 = subst (λ (t : Turn). TakesTurn (turn_done t o.hart s) h s s') e x in
-    let x2 : TakesTurn (turn_done (turn_for turn v) v.hart s) h s s' = subst (λ (z : HartEnd). TakesTurn (turn_done (turn_for turn z) z.hart s) h s s') is x1 in
-    turns_more turn v os s s' u k shows h x2 (subst (λ (r : List HartEnd). HadTurns (next_turn turn) r (record s' { log = k; shows = shows }) u) (rest_is v os) y)
+had_first : (turn : Turn) (os : List HartEnd) (s t u : SharedState) → IsAsBefore s t → HadTurns turn os t u → HadTurns turn os s u
+had_first turn os s t u same had logs m rs c a eb ec et =
+    let memory = same.keeps.memory in
+    let left = had logs m rs c a (eb ∙ sym (ap (λ (x : Memory). x.bytes) memory)) (ec ∙ sym same.console) (et ∙ sym same.reservations) in
+    let w = subst (λ (code : List Range). LeftBy (reserving_phase_from (words_of code) turn.budget turn.round turn.hart rs c) t u) (ap (λ (x : Memory). x.code) memory) left in
+    record {
+      pages = record { bytes = w.pages.bytes; code = w.pages.code ∙ ap (λ (x : Memory). x.code) memory; count = w.pages.count ∙ same.keeps.count; stays = λ page h. w.pages.stays page (same.keeps.stays page h) };
+      reservations = w.reservations;
+      console = w.console;
+    }
 
--- what the turns may need together
-pub sums : (budget n k : ℕ) (o : HartEnd) (os : List HartEnd) → 1 ≤ length os → o ≡ get_or os 0 o → k ≡ cond o.waits budget 0 → n + turns_of budget (waits_of os) ≡ (n + turns_of budget (waits_of (rest os))) + k
-sums budget n k o [] some is e = absurd (omega (arith, some))
-sums budget n k o (v ∷ os) some is e =
-    let same : k ≡ cond v.waits budget 0 = e ∙ ap (λ (z : HartEnd). cond z.waits budget 0) is in
-    ap (λ (x : ℕ). n + x) (omega arith) ∙ ap (λ (x : ℕ). n + (turns_of budget (waits_of os) + x)) (sym same) ∙ omega arith ∙ ap (λ (r : List HartEnd). (n + turns_of budget (waits_of r)) + k) (sym (rest_is v os))
+pub had_then : (turn : Turn) (os : List HartEnd) (s t u : SharedState) → HadTurns turn os s t → IsAsBefore t u → HadTurns turn os s u
+had_then turn os s t u had same logs m rs c a eb ec et =
+    let memory = same.keeps.memory in
+    let w = had logs m rs c a eb ec et in
+    record {
+      pages = record { bytes = ap (λ (x : Memory). x.bytes) memory ∙ w.pages.bytes; code = ap (λ (x : Memory). x.code) memory ∙ w.pages.code; count = same.keeps.count ∙ w.pages.count; stays = λ page h. same.keeps.stays page (w.pages.stays page h) };
+      reservations = same.reservations ∙ w.reservations;
+      console = same.console ∙ w.console;
+    }
 
-pub sums_0 : (budget k : ℕ) (o : HartEnd) (os : List HartEnd) → 1 ≤ length os → o ≡ get_or os 0 o → k ≡ cond o.waits budget 0 → turns_of budget (waits_of os) ≡ turns_of budget (waits_of (rest os)) + k
-sums_0 budget k o os some is e = omega (arith, sums budget 0 k o os some is e)
+pub turns_up : (turn of_first : Turn) (o : HartEnd) (os : List HartEnd) (s t s' u : SharedState) (h : Hart) → 1 ≤ length os → o ≡ get_or os 0 o → of_first ≡ turn_for turn o →
+    IsAsBefore s t → TakesTurn (turn_done of_first o.hart t) h t s' → HadTurns (next_turn turn) (rest os) s' u → HadTurns turn os s u
+turns_up turn of_first o [] s t s' u h some is e same x y = absurd (omega (arith, some))
+turns_up turn of_first o (v ∷ os) s t s' u h some is e same x y =
+    let x1 = subst (λ (z : Turn). TakesTurn (turn_done z o.hart t) h t s') e x in
+    let x2 : TakesTurn (turn_done (turn_for turn v) v.hart t) h t s' = subst (λ (z : HartEnd). TakesTurn (turn_done (turn_for turn z) z.hart t) h t s') is x1 in
+    had_first turn (v ∷ os) s t u same (turns_more turn v os t s' u h x2 (subst (λ (r : List HartEnd). HadTurns (next_turn turn) r s' u) (rest_is v os) y))
 
 -- ---- what the first harts left is of the first rounds
 

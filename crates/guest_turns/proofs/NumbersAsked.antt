@@ -18,7 +18,6 @@ use Rattle.serial_phase.specs.Asking.{asks_in_round, asks_in_reserving_phase, as
 use Rattle.serial_phase.specs.Forgetting.{asks_number}
 use Rattle.serial_phase.proofs.ReservationsTied.{asking_by_reservations}
 use Rattle.serial_phase.specs.Phase.{TakesTurn, turn_done}
-use Rattle.serial_phase.specs.Turns.{Turns}
 use Rattle.serial_phase.specs.declared.shared.SharedState.{SharedState}
 use Rattle.serial_phase.specs.declared.shared.Turn.{Turn}
 use Rattle.hart_rounds.specs.declared.hart_end.HartEnd.{HartEnd}
@@ -26,7 +25,7 @@ use Rattle.guest_turns.specs.Asked.{ready_for_turns, reserving_turn_begun}
 use Rattle.guest_rounds.specs.Guests.{Shared}
 use Rattle.guest_rounds.specs.HartEnds.{AreEndsOf}
 use Rattle.guest_turns.specs.NumberAsked.{TellsAsking}
-use Rattle.guest_turns.proofs.AskedTurns.{next_turn, rest, turn_for}
+use Rattle.guest_turns.proofs.AskedTurns.{IsAsBefore, next_turn, rest, turn_for}
 use Rattle.guest_rounds.proofs.EndParts.{hart_is, waits_is}
 
 -- ---- turn by turn
@@ -61,10 +60,10 @@ first_asks turn o os s f logs m (r ∷ rs) c a eb ec et =
     (reserving_phase_joined c (reserving_turn_of (words_of s.pages.memory.code) turn.budget turn.round c turn.hart r.last.hart r.waits)))
     (sym f ∙ first_is turn o s logs m r rs os c a eb ec et)
 
-later_asks : (turn : Turn) (o : HartEnd) (os : List HartEnd) (s s' : SharedState) (k : Turns) (h : Hart) (b : Bool) → asks_first turn o s ≡ false →
-    TakesTurn (turn_done (turn_for turn o) o.hart s) h s s' → TellsAsking (next_turn turn) os (record s' { log = k }) b → TellsAsking turn (o ∷ os) s b
-later_asks turn o os s s' k h b f x y logs m [] c a eb ec et = absurd a
-later_asks turn o os s s' k h b f x y logs m (r ∷ rs) c a eb ec et =
+later_asks : (turn : Turn) (o : HartEnd) (os : List HartEnd) (s s' : SharedState) (h : Hart) (b : Bool) → asks_first turn o s ≡ false →
+    TakesTurn (turn_done (turn_for turn o) o.hart s) h s s' → TellsAsking (next_turn turn) os s' b → TellsAsking turn (o ∷ os) s b
+later_asks turn o os s s' h b f x y logs m [] c a eb ec et = absurd a
+later_asks turn o os s s' h b f x y logs m (r ∷ rs) c a eb ec et =
     let n = turn.round in
     let first = turn.hart in
     let budget = turn.budget in
@@ -85,6 +84,13 @@ later_asks turn o os s s' k h b f x y logs m (r ∷ rs) c a eb ec et =
     z ∙ ap (λ (d : List Range). asks_in_reserving_phase (words_of d) (asks_number d) budget n (first + 1) rs (reserving_phase_joined c D)) x'.pages.code
     ∙ ap (λ (j : ℕ). asks_in_reserving_phase W (asks_number code) budget n j rs (reserving_phase_joined c D)) next in
     later ∙ ap (λ (e : Bool). e || asks_in_reserving_phase W (asks_number code) budget n (suc first) rs (reserving_phase_joined c D)) (sym f ∙ first_is turn o s logs m r rs os c a eb ec et)
+
+-- where room was made before
+pub tells_first : (turn : Turn) (os : List HartEnd) (s t : SharedState) (b : Bool) → IsAsBefore s t → TellsAsking turn os t b → TellsAsking turn os s b
+tells_first turn os s t b same tells logs m rs c a eb ec et =
+    let memory = same.keeps.memory in
+    tells logs m rs c a (eb ∙ sym (ap (λ (x : Memory). x.bytes) memory)) (ec ∙ sym same.console) (et ∙ sym same.reservations)
+    ∙ ap (λ (x : Memory). asks_in_reserving_phase (words_of x.code) (asks_number x.code) turn.budget turn.round turn.hart rs c) memory
 
 -- by the first of a list
 
@@ -114,17 +120,17 @@ first_up turn of_first o (v ∷ os) s b some is e good told =
     let f : asks_first turn o s ≡ true = ap (asks_by turn o s) (sym e) ∙ sym told ∙ good in
     first_asks turn v os s (subst (λ (z : HartEnd). asks_first turn z s ≡ true) is f)
 
-pub later_up : (turn of_first : Turn) (o : HartEnd) (os : List HartEnd) (s s' : SharedState) (k : Turns) (h : Hart) (a b : Bool) → 1 ≤ length os → o ≡ get_or os 0 o → of_first ≡ turn_for turn o → a ≡ false →
+pub later_up : (turn of_first : Turn) (o : HartEnd) (os : List HartEnd) (s s' : SharedState) (h : Hart) (a b : Bool) → 1 ≤ length os → o ≡ get_or os 0 o → of_first ≡ turn_for turn o → a ≡ false →
     a ≡ asks_in_reserving_turn (words_of s.pages.memory.code) (asks_number s.pages.memory.code) of_first.round of_first.hart of_first.budget (reserving_turn_begun o.hart s.pages.memory.bytes s.console.console s.reservations) →
-    TakesTurn (turn_done of_first o.hart s) h s s' → TellsAsking (next_turn turn) (rest os) (record s' { log = k }) b → TellsAsking turn os s b
+    TakesTurn (turn_done of_first o.hart s) h s s' → TellsAsking (next_turn turn) (rest os) s' b → TellsAsking turn os s b
 unfolding asks_by
-later_up turn of_first o [] s s' k h a b some is e bad told x y = absurd (omega (arith, some))
-later_up turn of_first o (v ∷ os) s s' k h a b some is e bad told x y =
+later_up turn of_first o [] s s' h a b some is e bad told x y = absurd (omega (arith, some))
+later_up turn of_first o (v ∷ os) s s' h a b some is e bad told x y =
     let f : asks_first turn o s ≡ false = ap (asks_by turn o s) (sym e) ∙ sym told ∙ bad in
     let x1 = subst (λ (t : Turn). TakesTurn (turn_done t o.hart s) h s s') e x in
     let x2 : TakesTurn (turn_done (turn_for turn v) v.hart s) h s s' = subst (λ (z : HartEnd). TakesTurn (turn_done (turn_for turn z) z.hart s) h s s') is x1 in
-    later_asks turn v os s s' k h b (subst (λ (z : HartEnd). asks_first turn z s ≡ false) is f) x2
-    (subst (λ (q : List HartEnd). TellsAsking (next_turn turn) q (record s' { log = k }) b) (rest_is v os) y)
+    later_asks turn v os s s' h b (subst (λ (z : HartEnd). asks_first turn z s ≡ false) is f) x2
+    (subst (λ (q : List HartEnd). TellsAsking (next_turn turn) q s' b) (rest_is v os) y)
 
 -- ---- after a commit
 

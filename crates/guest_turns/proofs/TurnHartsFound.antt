@@ -15,19 +15,22 @@ use Rattle.round_planner.specs.Quotas.{Planned, quotas_of}
 use Rattle.commit_phase.specs.Commit.{Committed}
 use Rattle.hart_step.specs.declared.hart.Hart.{Hart}
 use Rattle.hart_step.specs.Console.{ConsoleState}
+use Rattle.hart_step.specs.Room.{TakesDirectly}
 use Rattle.hart_step.specs.SerialStep.{serial_stepped}
 use Rattle.hart_step.specs.Words.{words_of}
 use Rattle.hart_step.proofs.Soundness.{sound}
 use Rattle.serial_phase.specs.Asking.{reserving_turn_went}
 use Rattle.serial_phase.proofs.Words.{picked, picked_not}
 use Rattle.serial_phase.specs.Phase.{TakesTurn, turn_done}
+use Rattle.serial_phase.specs.Roomed.{Roomed}
 use Rattle.serial_phase.specs.Turns.{Turns}
 use Rattle.serial_phase.specs.UnderWay.{At, Under, reserving_turn_at}
 use Rattle.serial_phase.specs.Words.{answered_reservations}
 use Rattle.serial_phase.specs.declared.shared.SharedState.{SharedState}
 use Rattle.serial_phase.specs.declared.shared.Turn.{Turn}
 use Rattle.serial_phase.proofs.Came.{Came}
-use Rattle.serial_phase.proofs.TurnUnderWay.{Ends, IsNext, outcome_at, went}
+use Rattle.serial_phase.proofs.ShownCode.{ShowsCode}
+use Rattle.serial_phase.proofs.TurnUnderWay.{Ends, IsNext, ends_stopped, ends_waiting, outcome_at, under_more, under_waited, went}
 use Rattle.hart_rounds.specs.declared.hart_end.HartEnd.{HartEnd}
 use Rattle.guest_turns.specs.Asked.{ready_for_turns, reserving_turn_begun}
 use Rattle.guest_rounds.specs.Guests.{Shared}
@@ -83,7 +86,7 @@ next_left turn x y left z some on same n =
 pub harts_first : (turn : Turn) (old : List Hart) (x : At) → old ++ harts_left turn x turn.budget x ≡ old ++ harts_left turn x turn.budget x
 harts_first turn old x = refl
 
-pub harts_more : (turn : Turn) (left : ℕ) (old passed more : List Hart) (x y : At) (z : Came) (l : Turns) (a : Option Access) → 0 < left → is_some y.hart.stop ≡ false → z.answer ≡ Done a → IsNext turn y z →
+harts_more : (turn : Turn) (left : ℕ) (old passed more : List Hart) (x y : At) (z : Came) (l : Turns) (a : Option Access) → 0 < left → is_some y.hart.stop ≡ false → z.answer ≡ Done a → IsNext turn y z →
     l.current ≡ z.state.log.current ++ option_to_list a → more ≡ passed ++ y.hart ∷ [] → Walked turn left old passed x y → old ++ harts_left turn x turn.budget x ≡ more ++ harts_left turn x (left - 1) (went z l z.state.shows)
 harts_more turn left old passed more x y z l a some on is n log pushed u =
     let s = n.1 in
@@ -102,6 +105,17 @@ harts_more turn left old passed more x y z l a some on is n log pushed u =
     ∙ sym (append_assoc passed (y.hart ∷ []) (later (reserving_turn_at (went z l z.state.shows))))
     ∙ ap (λ (hs : List Hart). hs ++ later (reserving_turn_at (went z l z.state.shows))) (sym pushed)
 
+-- with a spare page more, where it comes to the same
+abbrev pub roomier_at : (y : At) (p : Paged) → ShowsCode p y.state.code → At
+roomier_at y p shows = record { hart = y.hart; state = record y.state { pages = p; shows = shows } }
+
+walked_still : (turn : Turn) (left : ℕ) (old passed : List Hart) (x y : At) (p : Paged) (shows : ShowsCode p y.state.code) → TakesDirectly y.state.pages [] p → Walked turn left old passed x y →
+    Walked turn left old passed x (roomier_at y p shows)
+walked_still turn left old passed x y p shows still u = record {
+  under = under_waited turn left x y y.hart p shows refl still u.under;
+  harts = u.harts ∙ ap (λ (m : Memory). passed ++ reserving_turns_from (words_of x.state.pages.memory.code) turn.round turn.hart left (record (reserving_turn_at y) { bytes = m.bytes })) (sym still.memory);
+}
+
 harts_ended : (turn : Turn) (left : ℕ) (old passed : List Hart) (x y : At) (z : Came) → 0 < left → is_some y.hart.stop ≡ false →
     ((o : SerialOutcome Hart ConsoleState) (f : ReservingTurn Hart ConsoleState → List Hart) → by_reserving_answer turn.hart z.answer (reserving_turn_at y) o f ≡ o.hart ∷ []) → IsNext turn y z →
     Walked turn left old passed x y → passed ++ z.hart ∷ [] ≡ old ++ harts_left turn x turn.budget x
@@ -109,11 +123,11 @@ harts_ended turn left old passed x y z some on ends n u =
     sym (u.harts
     ∙ ap (λ (hs : List Hart). passed ++ hs) (next_left turn x y left z some on u.under.keeps.code n ∙ ends (outcome_at turn y) _ ∙ ap (λ (h : Hart). h ∷ []) (sym n.1.hart)))
 
-pub harts_waiting : (turn : Turn) (left : ℕ) (old passed : List Hart) (x y : At) (z : Came) → 0 < left → is_some y.hart.stop ≡ false → z.answer ≡ Waits → IsNext turn y z →
+harts_waiting : (turn : Turn) (left : ℕ) (old passed : List Hart) (x y : At) (z : Came) → 0 < left → is_some y.hart.stop ≡ false → z.answer ≡ Waits → IsNext turn y z →
     Walked turn left old passed x y → passed ++ z.hart ∷ [] ≡ old ++ harts_left turn x turn.budget x
 harts_waiting turn left old passed x y z some on is n u = harts_ended turn left old passed x y z some on (λ o f. ap (λ (b : Stepped). by_reserving_answer turn.hart b (reserving_turn_at y) o f) is) n u
 
-pub harts_stopped : (turn : Turn) (left : ℕ) (old passed : List Hart) (x y : At) (z : Came) (code : ℕ) → 0 < left → is_some y.hart.stop ≡ false → z.answer ≡ Stopped code → IsNext turn y z →
+harts_stopped : (turn : Turn) (left : ℕ) (old passed : List Hart) (x y : At) (z : Came) (code : ℕ) → 0 < left → is_some y.hart.stop ≡ false → z.answer ≡ Stopped code → IsNext turn y z →
     Walked turn left old passed x y → passed ++ z.hart ∷ [] ≡ old ++ harts_left turn x turn.budget x
 harts_stopped turn left old passed x y z code some on is n u = harts_ended turn left old passed x y z some on (λ o f. ap (λ (b : Stepped). by_reserving_answer turn.hart b (reserving_turn_at y) o f) is) n u
 
@@ -130,11 +144,40 @@ walks turn old passed x y began harts e = record {
   harts = harts
       ∙ ap (λ (l : List Access). old ++ reserving_turns_from (words_of x.state.pages.memory.code) turn.round turn.hart turn.budget (record (reserving_turn_at x) { log = l })) began;
   taken = e.taken;
-  pages = e.pages;
-  console = e.console;
-  log = e.log;
   reservations = e.reservations;
 }
+
+-- ---- with a spare page before the next instruction
+
+pub walked_more : (turn : Turn) (left : ℕ) (old passed more : List Hart) (x y : At) (p : Paged) (shows : ShowsCode p y.state.code) (z : Came) (l : Turns) (later : ShowsCode z.state.pages z.state.code) (a : Option Access) →
+    0 < left → is_some y.hart.stop ≡ false → z.answer ≡ Done a → TakesDirectly y.state.pages [] p → IsNext turn (roomier_at y p shows) z →
+    l.current ≡ z.state.log.current ++ option_to_list a → l.closed ≡ z.state.log.closed → z.state.log.room ≤ l.room + 1 → more ≡ passed ++ y.hart ∷ [] →
+    Walked turn left old passed x y → Walked turn (left - 1) old more x (went z l later)
+walked_more turn left old passed more x y p shows z l later a some on is still n log closed room pushed u =
+    let u' = walked_still turn left old passed x y p shows still u in
+    let y' = roomier_at y p shows in
+    record {
+      under = under_more turn left x y' z l later a some on is n log closed room u'.under;
+      harts = harts_more turn left old passed more x y' z l a some on is n log pushed u';
+    }
+
+pub walks_waiting : (turn : Turn) (left : ℕ) (old passed : List Hart) (x y : At) (p : Paged) (shows : ShowsCode p y.state.code) (z : Came) →
+    0 < left → is_some y.hart.stop ≡ false → x.state.log.current ≡ [] → z.answer ≡ Waits → TakesDirectly y.state.pages [] p → IsNext turn (roomier_at y p shows) z →
+    Walked turn left old passed x y → WalksTurn turn x.hart x.state old z.hart z.state passed
+walks_waiting turn left old passed x y p shows z some on began is still n u =
+    let u' = walked_still turn left old passed x y p shows still u in
+    let y' = roomier_at y p shows in
+    walks turn old passed x (record { hart = z.hart; state = z.state }) began
+    (harts_waiting turn left old passed x y' z some on is n u') (ends_waiting turn left x y' z some on began is n u'.under)
+
+pub walks_stopped : (turn : Turn) (left : ℕ) (old passed : List Hart) (x y : At) (p : Paged) (shows : ShowsCode p y.state.code) (z : Came) (code : ℕ) →
+    0 < left → is_some y.hart.stop ≡ false → x.state.log.current ≡ [] → z.answer ≡ Stopped code → TakesDirectly y.state.pages [] p → IsNext turn (roomier_at y p shows) z →
+    Walked turn left old passed x y → WalksTurn turn x.hart x.state old z.hart z.state passed
+walks_stopped turn left old passed x y p shows z code some on began is still n u =
+    let u' = walked_still turn left old passed x y p shows still u in
+    let y' = roomier_at y p shows in
+    walks turn old passed x (record { hart = z.hart; state = z.state }) began
+    (harts_stopped turn left old passed x y' z code some on is n u') (ends_stopped turn left x y' z code some on began is n u'.under)
 
 -- ---- turn by turn
 
@@ -193,7 +236,7 @@ pub none_added : (turn : Turn) (os : List HartEnd) (s : SharedState) (old : List
 none_added turn [] s old lt = no_turns turn s old
 none_added turn (o ∷ os) s old lt = absurd (omega (arith, lt))
 
-pub one_added : (turn of_first : Turn) (o : HartEnd) (os : List HartEnd) (s s' : SharedState) (k : Turns) (h : Hart) (passed : List Hart) (old more new : List (List Hart)) → 1 ≤ length os → o ≡ get_or os 0 o → of_first ≡ turn_for turn o →
+one_added : (turn of_first : Turn) (o : HartEnd) (os : List HartEnd) (s s' : SharedState) (k : Turns) (h : Hart) (passed : List Hart) (old more new : List (List Hart)) → 1 ≤ length os → o ≡ get_or os 0 o → of_first ≡ turn_for turn o →
     WalksTurn of_first o.hart s [] h s' passed → more ≡ old ++ (passed ++ h ∷ []) ∷ [] → AddsTurns (next_turn turn) (rest os) (record s' { log = k }) more new → AddsTurns turn os s old new
 one_added turn of_first o [] s s' k h passed old more new some is e x pushed y = absurd (omega (arith, some))
 one_added turn of_first o (v ∷ os) s s' k h passed old more new some is e x pushed y =
@@ -202,6 +245,19 @@ one_added turn of_first o (v ∷ os) s s' k h passed old more new some is e x pu
     one_more turn v os s s' k h old new x2.taken
     (subst (λ (hss : List (List Hart)). AddsTurns (next_turn turn) os (record s' { log = k }) hss new) (pushed ∙ ap (λ (hs : List Hart). old ++ hs ∷ []) x2.harts)
     (subst (λ (q : List HartEnd). AddsTurns (next_turn turn) q (record s' { log = k }) more new) (rest_is v os) y))
+
+-- with other room for the output and the accesses
+added_roomed : (turn : Turn) (os : List HartEnd) (s : SharedState) (d : Roomed) (k : Turns) (shows : ShowsCode s.pages s.code) (old new : List (List Hart)) → d.console ≡ s.console.console →
+    AddsTurns turn os (record s { shows = shows; console = d; log = k }) old new → AddsTurns turn os s old new
+added_roomed turn os s d k shows old new same adds logs m rs c a eb ec et = adds logs m rs c a eb (ec ∙ sym same) et
+
+pub one_roomed : (turn of_first : Turn) (o : HartEnd) (os : List HartEnd) (s s' : SharedState) (d : Roomed) (l k : Turns) (shows : ShowsCode s.pages s.code) (h : Hart) (none passed : List Hart) (old more new : List (List Hart)) →
+    1 ≤ length os → o ≡ get_or os 0 o → of_first ≡ turn_for turn o → d.console ≡ s.console.console → none ≡ [] → WalksTurn of_first o.hart (record s { shows = shows; console = d; log = l }) none h s' passed →
+    more ≡ old ++ (passed ++ h ∷ []) ∷ [] → AddsTurns (next_turn turn) (rest os) (record s' { log = k }) more new → AddsTurns turn os s old new
+one_roomed turn of_first o os s s' d l k shows h none passed old more new some is e same empty x pushed y =
+    let room : SharedState = record s { shows = shows; console = d; log = l } in
+    let x' = subst (λ (hs : List Hart). WalksTurn of_first o.hart room hs h s' passed) empty x in
+    added_roomed turn os s d l shows old new same (one_added turn of_first o os room s' k h passed old more new some is e x' pushed y)
 
 -- ---- after a commit
 

@@ -1,5 +1,5 @@
 -- The harts along the serial turns of a round, as they are found: over a list of reservations, turn by turn.
-use Rattle.std.specs.Prelude.{◌≡◌, ℕ, zero, suc, ◌+◌, ◌≤◌, Bool, if◌then◌else◌, List, [], ◌∷◌, ◌++◌, length}
+use Rattle.std.specs.Prelude.{◌≡◌, ℕ, zero, suc, Bool, if◌then◌else◌, List, [], ◌∷◌, ◌++◌, length}
 use Rattle.pages.specs.Memory.{Memory}
 use Rattle.round_schedule.specs.declared.access.Stepped.{Stepped}
 use Rattle.round_schedule.specs.declared.access.Stepped.TheVariants.{Done, Waits, Stopped}
@@ -8,10 +8,8 @@ use Rattle.round_schedule.specs.ReservingTurn.{ReservingPhase, ReservingTurn, re
 use Rattle.serial_phase.specs.Asking.{reserving_turn_went}
 use Rattle.hart_step.specs.declared.hart.Hart.{Hart}
 use Rattle.hart_step.specs.Console.{ConsoleState}
-use Rattle.hart_step.specs.Room.{HasSpares}
 use Rattle.hart_step.specs.Words.{words_of}
 use Rattle.serial_phase.specs.Phase.{TakesTurn, turn_done}
-use Rattle.serial_phase.specs.Roomed.{HasRoom}
 use Rattle.serial_phase.specs.declared.shared.SharedState.{SharedState}
 use Rattle.serial_phase.specs.declared.shared.Turn.{Turn}
 use Rattle.hart_rounds.specs.declared.hart_end.HartEnd.{HartEnd}
@@ -36,14 +34,11 @@ turns_in_reserving_phase w budget n i (r ∷ rs) s =
     reserving_turns_from w n i (if r.waits then budget else 0) (record { hart = r.last.hart; bytes = s.bytes; console = s.console; reservations = s.reservations; log = [] })
     ∷ turns_in_reserving_phase w budget n (suc i) rs (reserving_phase_joined s (reserving_turn_of w budget n s i r.last.hart r.waits))
 
--- the turn is done, with what is left of the rooms; the harts before its instructions were added to those, and the hart is as it leaves it
+-- the turn is done; the harts before its instructions were added to those, and the hart is as it leaves it
 pub record WalksTurn (turn : Turn) (h : Hart) (s : SharedState) (old : List Hart) (g : Hart) (t : SharedState) (new : List Hart) : Type 0 where
   pub harts : new ++ g ∷ [] ≡ old ++ reserving_turns_from (words_of s.pages.memory.code) turn.round turn.hart turn.budget
       (reserving_turn_begun h s.pages.memory.bytes s.console.console s.reservations)
   pub taken : TakesTurn (turn_done turn h s) g s t
-  pub pages : (n : ℕ) → HasSpares (n + turn.budget) s.pages → HasSpares n t.pages
-  pub console : (n : ℕ) → HasRoom (n + turn.budget) s.console → HasRoom n t.console
-  pub log : s.log.room ≤ t.log.room + turn.budget
   pub reservations : length t.reservations ≡ length s.reservations
 
 -- the harts along the turns of those whose rounds left these, of which the first one's turn would be this, are added

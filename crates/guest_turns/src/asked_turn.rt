@@ -1,4 +1,4 @@
-ghost use Rattle.std.specs.Prelude.{◌≡◌, ℕ, ◌<◌, ◌≤◌, ◌+◌, Bool, List, [], length, IfOk, if◌then◌else◌};
+ghost use Rattle.std.specs.Prelude.{◌≡◌, ℕ, ◌<◌, ◌≤◌, ◌+◌, Bool, List, [], length, IfOk, OnOk, if◌then◌else◌};
 ghost use Rattle.pages.specs.Memory.{TouchesNoCode};
 ghost use Rattle.round_schedule.specs.Schedule.{HartRound, all_stores};
 ghost use Rattle.hart_step.specs.declared.hart.Hart.{Hart};
@@ -6,9 +6,9 @@ ghost use Rattle.hart_step.specs.Room.{HasSpares};
 ghost use Rattle.serial_phase.specs.Roomed.{HasRoom};
 ghost use Rattle.guest_turns.specs.Asked.{HadTurns, reserving_turn_begun, found_at, found_in, one_further};
 ghost use Rattle.guest_rounds.specs.Guests.{shared_of};
-ghost use Rattle.guest_rounds.specs.HartEnds.{AreFit, AreEndsOf, turns_of, waits_of};
+ghost use Rattle.guest_rounds.specs.HartEnds.{AreFit, AreEndsOf};
 
-use guest_rounds::{Crew, commit, make_turn_room, turns_needed};
+use guest_rounds::{Crew, commit, make_turn_room};
 use hart_rounds::HartEnd;
 use hart_step::Hart;
 use moments::Sight;
@@ -54,47 +54,37 @@ pub(crate) fn ask_turn<G, R: Threads + Sync>(
         s ≡ found_in (shared_of shared.old) place start rs) }
 {
     let earlier = &ends[..place.hart as usize];
-    let turns = turns_needed(earlier, place.budget) + place.budget;
-    make_turn_room(shared, ends, turns)?;
+    make_turn_room(shared, ends, 0)?;
     commit(crew, &mut shared.pages, &mut shared.reservations, ends);
     let first = Turn {
         hart: 0,
         round: place.round,
         budget: place.budget,
     };
-    take_turns(shared, earlier, first);
+    take_turns(shared, earlier, first)?;
+    make_turn_room(shared, &[], place.budget)?;
     sight_at(shared, start, place)
 }
 
 /// Does the turns of the waiting ones among these harts, of which the first one's turn would be this.
-fn take_turns(shared: &mut SharedState, ends: &[HartEnd], turn: Turn)
+fn take_turns(shared: &mut SharedState, ends: &[HartEnd], turn: Turn) -> Result<(), OutOfMemory>
     requires harts { turn.hart + length ends.now ≤ length shared.old.reservations }
     requires few { length shared.old.reservations ≤ MOST_HARTS }
-    requires pages { HasSpares (turns_of turn.budget (waits_of ends.now)) shared.old.pages }
-    requires console { HasRoom (turns_of turn.budget (waits_of ends.now)) shared.old.console }
-    requires log { turns_of turn.budget (waits_of ends.now) ≤ shared.old.log.room }
-    requires began { shared.old.log.current ≡ [] }
-    ensures turns { HadTurns turn ends.now shared.old shared.new }
-    ensures pages { (n : ℕ) → HasSpares (n + turns_of turn.budget (waits_of ends.now))
-        shared.old.pages → HasSpares n shared.new.pages }
-    ensures console { (n : ℕ) → HasRoom (n + turns_of turn.budget (waits_of ends.now))
-        shared.old.console → HasRoom n shared.new.console }
-    ensures log { shared.old.log.room ≤
-        shared.new.log.room + turns_of turn.budget (waits_of ends.now) }
-    ensures began { shared.new.log.current ≡ [] }
+    ensures turns { OnOk result (HadTurns turn ends.now shared.old shared.new) }
     ensures size { length shared.new.reservations ≡ length shared.old.reservations }
 {
     match ends {
-        [] => {}
+        [] => Ok(()),
         [end, rest @ ..] => {
+            let its = turn_of(end, turn);
+            make_turn_room(shared, &[], its.budget)?;
             let mut hart = end.hart;
-            take_turn(&mut hart, shared, turn_of(end, turn));
-            shared.log.clear();
+            take_turn(&mut hart, shared, its);
             let next = Turn {
                 hart: turn.hart + 1,
                 ..turn
             };
-            take_turns(shared, rest, next);
+            take_turns(shared, rest, next)
         }
     }
 }

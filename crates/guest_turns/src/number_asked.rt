@@ -5,19 +5,17 @@ ghost use Rattle.round_schedule.specs.Schedule.{HartRound, all_stores};
 ghost use Rattle.round_schedule.specs.Reservations.{Tied};
 ghost use Rattle.round_planner.specs.Quotas.{quotas_of};
 ghost use Rattle.hart_step.specs.declared.hart.Hart.{Hart};
-ghost use Rattle.hart_step.specs.Room.{HasSpares};
 ghost use Rattle.hart_step.specs.Words.{words_of};
 ghost use Rattle.serial_phase.specs.Asking.{asks_in_round, asks_in_reserving_phase};
 ghost use Rattle.serial_phase.specs.Forgetting.{asks_number};
-ghost use Rattle.serial_phase.specs.Roomed.{HasRoom};
 ghost use Rattle.guest_rounds.specs.Guests.{guest_state, shared_of};
-ghost use Rattle.guest_rounds.specs.HartEnds.{AreFit, AreEndsOf, turns_of, waits_of};
+ghost use Rattle.guest_rounds.specs.HartEnds.{AreFit, AreEndsOf};
 ghost use Rattle.guest_turns.specs.Asked.{ready_for_turns};
 ghost use Rattle.guest_turns.specs.NumberAsked.{TellsAsking};
 ghost use Rattle.round_schedule.specs.Bounds.{AreWorkers};
 
 use crate::asked_turn::turn_of;
-use guest_rounds::{Crew, GuestState, HalfRound, commit, make_turn_room, turns_needed};
+use guest_rounds::{Crew, GuestState, HalfRound, commit, make_turn_room};
 use hart_rounds::HartEnd;
 use pages::OutOfMemory;
 use parallel_phase::Open;
@@ -72,37 +70,33 @@ fn asks_in_turns<G, R: Threads + Sync>(
         (asks_number shared.old.pages.memory.code) budget round 0 rs
         (ready_for_turns (shared_of shared.old) rs)) }
 {
-    let turns = turns_needed(ends, budget);
-    make_turn_room(shared, ends, turns)?;
+    make_turn_room(shared, ends, 0)?;
     commit(crew, &mut shared.pages, &mut shared.reservations, ends);
     let first = Turn {
         hart: 0,
         round,
         budget,
     };
-    Ok(one_asks(shared, ends, first))
+    one_asks(shared, ends, first)
 }
 
 /// Does the turns of the waiting ones among these harts, of which the first one's turn would be this, up to one in which its hart
 /// asks, and answers whether there is one.
-fn one_asks(shared: &mut SharedState, ends: &[HartEnd], turn: Turn) -> bool
+fn one_asks(shared: &mut SharedState, ends: &[HartEnd], turn: Turn) -> Result<bool, OutOfMemory>
     requires harts { turn.hart + length ends.now ≤ length shared.old.reservations }
     requires few { length shared.old.reservations ≤ MOST_HARTS }
-    requires pages { HasSpares (turns_of turn.budget (waits_of ends.now)) shared.old.pages }
-    requires console { HasRoom (turns_of turn.budget (waits_of ends.now)) shared.old.console }
-    requires log { turns_of turn.budget (waits_of ends.now) ≤ shared.old.log.room }
-    requires began { shared.old.log.current ≡ [] }
-    ensures { TellsAsking turn ends.now shared.old result }
+    ensures { IfOk result (TellsAsking turn ends.now shared.old) }
 {
     match ends {
-        [] => false,
+        [] => Ok(false),
         [end, rest @ ..] => {
+            let its = turn_of(end, turn);
+            make_turn_room(shared, &[], its.budget)?;
             let mut hart = end.hart;
-            let asks = take_asking_turn(&mut hart, shared, turn_of(end, turn));
+            let asks = take_asking_turn(&mut hart, shared, its);
             if asks {
-                return true;
+                return Ok(true);
             }
-            shared.log.clear();
             let next = Turn {
                 hart: turn.hart + 1,
                 ..turn

@@ -5,21 +5,21 @@ ghost use Rattle.round_schedule.specs.Schedule.{HartRound, all_stores};
 ghost use Rattle.round_schedule.specs.Reservations.{Tied};
 ghost use Rattle.round_planner.specs.Quotas.{quotas_of};
 ghost use Rattle.hart_step.specs.declared.hart.Hart.{Hart};
-ghost use Rattle.hart_step.specs.Room.{HasSpares};
+ghost use Rattle.hart_step.specs.Room.{HasSpares, TakesDirectly};
 ghost use Rattle.hart_step.specs.Words.{words_of};
 ghost use Rattle.serial_phase.specs.Roomed.{HasRoom};
 ghost use Rattle.guest_rounds.specs.Guests.{guest_state, shared_of};
-ghost use Rattle.guest_rounds.specs.HartEnds.{AreFit, AreEndsOf, turns_of, waits_of};
+ghost use Rattle.guest_rounds.specs.HartEnds.{AreFit, AreEndsOf};
 ghost use Rattle.guest_turns.specs.Asked.{ready_for_turns};
 ghost use Rattle.guest_turns.specs.ReservingTurnHarts.{AddsTurns, WalksTurn, turns_in_reserving_phase};
 ghost use Rattle.guest_turns.specs.TurnHarts.{TurnsEndThePast, turns_in_round};
 ghost use Rattle.round_schedule.specs.Bounds.{AreWorkers};
 
 use crate::asked_turn::turn_of;
-use guest_rounds::{Crew, GuestState, HalfRound, commit, make_turn_room, turns_needed};
+use guest_rounds::{Crew, GuestState, HalfRound, commit, make_turn_room};
 use hart_rounds::HartEnd;
 use hart_step::Hart;
-use pages::OutOfMemory;
+use pages::{OutOfMemory, Pages};
 use parallel_phase::Open;
 use round_planner::Plan;
 use round_schedule::{Access, MOST_HARTS, Stepped};
@@ -79,8 +79,7 @@ fn walk_turns<G, R: Threads + Sync>(
         turns_in_reserving_phase (words_of shared.old.pages.memory.code) budget round 0 rs
         (ready_for_turns (shared_of shared.old) rs)) }
 {
-    let needed = turns_needed(ends, budget);
-    make_turn_room(shared, ends, needed)?;
+    make_turn_room(shared, ends, 0)?;
     commit(crew, &mut shared.pages, &mut shared.reservations, ends);
     let first = Turn {
         hart: 0,
@@ -101,9 +100,6 @@ fn add_turns(
 ) -> Result<(), OutOfMemory>
     requires harts { turn.hart + length ends.now ≤ length shared.old.reservations }
     requires few { length shared.old.reservations ≤ MOST_HARTS }
-    requires pages { HasSpares (turns_of turn.budget (waits_of ends.now)) shared.old.pages }
-    requires console { HasRoom (turns_of turn.budget (waits_of ends.now)) shared.old.console }
-    requires log { turns_of turn.budget (waits_of ends.now) ≤ shared.old.log.room }
     requires began { shared.old.log.current ≡ [] }
     ensures { OnOk result (AddsTurns turn ends.now shared.old (map (λ xs. xs.items) turns.old.items)
         (map (λ xs. xs.items) turns.new.items)) }
@@ -111,9 +107,12 @@ fn add_turns(
     match ends {
         [] => Ok(()),
         [end, rest @ ..] => {
+            let its = turn_of(end, turn);
+            shared.console.reserve(its.budget as usize)?;
+            shared.log.reserve(its.budget as usize)?;
             let mut hart = end.hart;
             let mut harts = Vec::new(shared.pages.allocator());
-            walk_turn(&mut hart, shared, turn_of(end, turn), &mut harts)?;
+            walk_turn(&mut hart, shared, its, &mut harts)?;
             harts.push(hart)?;
             turns.push(harts)?;
             shared.log.clear();
@@ -134,7 +133,6 @@ fn walk_turn(
     passed: &mut Vec<Hart>,
 ) -> Result<(), OutOfMemory>
     requires hart { turn.hart < length state.old.reservations }
-    requires pages { HasSpares turn.budget state.old.pages }
     requires console { HasRoom turn.budget state.old.console }
     requires log { turn.budget ≤ state.old.log.room }
     requires began { state.old.log.current ≡ [] }
@@ -147,6 +145,7 @@ fn walk_turn(
             return Ok(());
         }
         let before = *h;
+        make_spare(&mut state.pages)?;
         match serve(h, state, turn.hart, turn.round) {
             Stepped::Done(access) => keep(&mut state.log, access),
             Stepped::Waits => return Ok(()),
@@ -156,6 +155,18 @@ fn walk_turn(
         left -= 1;
     }
     Ok(())
+}
+
+/// Has a spare page for the next store, where it can need one: one at a time, since most turns store to few pages.
+fn make_spare(pages: &mut Pages) -> Result<(), OutOfMemory>
+    ensures memory { pages.new.memory ≡ pages.old.memory }
+    ensures idle { OnOk result (TakesDirectly pages.old [] pages.new) }
+    ensures spare { OnOk result (HasSpares 1 pages.new) }
+{
+    // What is spare already stays.
+    let spare = pages.spare().max(1);
+    let alloc = pages.allocator();
+    pages.prepare(alloc, &[], spare)
 }
 
 /// Adds an access to the turn that is under way, where there is one.

@@ -1,13 +1,12 @@
-use Rattle.std.proofs.Common.{refl, sym, subst, arith}
+use Rattle.std.proofs.Common.{refl, sym, subst}
+use Rattle.std.proofs.lemmas.Result.{IfOk-weaker}
 use Rattle.pages.specs.Memory.{Memory}
 use Rattle.commit_phase.specs.Commit.{Committed}
 use Rattle.serial_phase.specs.declared.shared.SharedState.{SharedState}
 use Rattle.guest_rounds.specs.Guests.{shared_of}
 use Rattle.guest_rounds.specs.HartEnds.{AreEndsOf}
-use Rattle.guest_turns.proofs.AskedTurns.{same_room}
 use Rattle.guest_rounds.proofs.ShownCode.{shows_committed}
 use Rattle.guest_turns.proofs.NumbersAsked.{committed_asks}
-use Rattle.guest_rounds.proofs.RoundDone.{spares_left}
 use Rattle.guest_turns.proofs.number_asked.asks_in_turns.Goals as goal
 
 pub invariant_of-shared : goal.invariant_of-shared
@@ -17,16 +16,10 @@ invariant_of-shared g c =
     let committed = c.commit.ensures.committed rounds.0 rounds.1 (subst (λ (x : Memory). AreEndsOf rounds.0 x rounds.1 c.args.ends.now) (sym same) rounds.2) in
     record { shows = shows_committed rounds.1 c.args.shared.now.pages.memory c.make_turn_room.new.shared c.commit.new.pages c.commit.new.reservations same committed rounds.3 }
 
-pub one_asks-requires-clause-pages : goal.one_asks-requires-clause-pages
-one_asks-requires-clause-pages g c =
-    spares_left c.turns_needed-turns.result _ c.make_turn_room.new.shared.pages c.commit.new.pages (omega (arith, c.turns_needed-turns.ensures.needed)) c.commit.ensures.ready c.commit.ensures.spare c.in_ok-make_turn_room.ensures.spares
-
-pub one_asks-requires-clause-console : goal.one_asks-requires-clause-console
-one_asks-requires-clause-console g c =
-    same_room c.turns_needed-turns.result _ c.make_turn_room.new.shared.console (omega (arith, c.turns_needed-turns.ensures.needed)) c.in_ok-make_turn_room.ensures.output
-
 pub returns : goal.returns
-returns g c = λ logs rs a.
+returns g c =
+    IfOk-weaker c.one_asks.result _ _
+    (λ b told logs rs a.
     let old = shared_of c.args.shared.now in
     let os = c.args.ends.now in
     let same = c.in_ok-make_turn_room.ensures.keeps.memory in
@@ -40,4 +33,5 @@ returns g c = λ logs rs a.
       reservations = c.commit.new.reservations;
       shows = shows_committed rounds.1 old.memory room c.commit.new.pages c.commit.new.reservations same first rounds.3;
     } in
-    committed_asks logs _ c.args.round c.args.budget old rs os room.pages start c.one_asks.result refl a same committed c.in_ok-make_turn_room.ensures.console c.one_asks.ensures
+    committed_asks logs _ c.args.round c.args.budget old rs os room.pages start b refl a same committed c.in_ok-make_turn_room.ensures.console told)
+    c.one_asks.ensures

@@ -1,4 +1,4 @@
-use Rattle.std.proofs.Common.{List, Vec, Global, map, refl, sym, ap, subst, arith}
+use Rattle.std.proofs.Common.{List, Vec, Global, map, refl, sym, ap, subst}
 use Rattle.pages.specs.Memory.{Memory}
 use Rattle.commit_phase.specs.Commit.{Committed}
 use Rattle.hart_step.specs.declared.hart.Hart.{Hart}
@@ -6,10 +6,8 @@ use Rattle.serial_phase.specs.declared.shared.SharedState.{SharedState}
 use Rattle.guest_rounds.specs.Guests.{shared_of}
 use Rattle.guest_rounds.specs.HartEnds.{AreEndsOf}
 use Rattle.guest_turns.specs.ReservingTurnHarts.{AddsTurns}
-use Rattle.guest_turns.proofs.AskedTurns.{same_room}
 use Rattle.guest_rounds.proofs.ShownCode.{shows_committed}
 use Rattle.guest_turns.proofs.TurnHartsFound.{committed_turns}
-use Rattle.guest_rounds.proofs.RoundDone.{spares_left}
 use Rattle.guest_turns.proofs.turn_harts.walk_turns.Goals as goal
 
 pub invariant_of-shared : goal.invariant_of-shared
@@ -18,14 +16,6 @@ invariant_of-shared g c =
     let same = c.in_ok-make_turn_room.ensures.keeps.memory in
     let committed = c.commit.ensures.committed rounds.0 rounds.1 (subst (λ (x : Memory). AreEndsOf rounds.0 x rounds.1 c.args.ends.now) (sym same) rounds.2) in
     record { shows = shows_committed rounds.1 c.args.shared.now.pages.memory c.make_turn_room.new.shared c.commit.new.pages c.commit.new.reservations same committed rounds.3 }
-
-pub add_turns-requires-clause-pages : goal.add_turns-requires-clause-pages
-add_turns-requires-clause-pages g c =
-    spares_left c.turns_needed-needed.result _ c.make_turn_room.new.shared.pages c.commit.new.pages (omega (arith, c.turns_needed-needed.ensures.needed)) c.commit.ensures.ready c.commit.ensures.spare c.in_ok-make_turn_room.ensures.spares
-
-pub add_turns-requires-clause-console : goal.add_turns-requires-clause-console
-add_turns-requires-clause-console g c =
-    same_room c.turns_needed-needed.result _ c.make_turn_room.new.shared.console (omega (arith, c.turns_needed-needed.ensures.needed)) c.in_ok-make_turn_room.ensures.output
 
 pub returns : goal.returns
 returns g c = λ logs rs a.
