@@ -25,6 +25,7 @@ use fence_trials::{Compared, Executer, FenceGuest, Reach};
 use guest_rounds::opening_harts;
 use host_io::Sink;
 use hunter::{check_hunt, check_ranges};
+use laid_image::LaidImage;
 use machine::load;
 use std::alloc::Global;
 use std::sync::Wait;
@@ -105,7 +106,7 @@ impl<E: Executer + Sync, O: FenceObserver + Sync> FenceFinder<'_, '_, E, O> {
         Ok(found)
     }
 
-    /// What a search finds. The image is loaded once.
+    /// What a search finds. The image is loaded and laid into memory once.
     fn searched<R: Threads + Wait + Sync>(
         &self,
         rt: &R,
@@ -131,8 +132,9 @@ impl<E: Executer + Sync, O: FenceObserver + Sync> FenceFinder<'_, '_, E, O> {
         let loaded = load(alloc, settings.hunt.format, image, settings.hunt.pages)?;
         check_ranges(&settings.hunt)?;
         let harts = opening_harts(alloc, loaded.entry(), settings.hunt.harts)?;
+        let laid = LaidImage::new(alloc, loaded)?;
         let opening = Opening {
-            image: &loaded,
+            image: &laid,
             input,
             harts: &harts,
         };

@@ -8,10 +8,10 @@ ghost use Rattle.hunter.specs.Hunts.{IsGuest, IsImageCause, ended_of, ending_by,
 
 use crate::finding::run_or_loop;
 use crate::settings::HuntSettings;
-use elf_loader::Image;
 use hart_step::{Hart, Stop};
 use host_io::RunError;
 use hunt_table::SeenRange;
+use laid_image::LaidImage;
 use machine::{UntracedMachine, load};
 use pages::OutOfMemory;
 use plan_hunt::{Ending, HartEnding, HuntObserver, PlanRuns, Runs};
@@ -26,7 +26,8 @@ pub(crate) struct Guest<'a, O> {
     pub alloc: Global,
     pub settings: &'a HuntSettings,
     pub input: &'a [u8],
-    pub image: Image,
+    /// Laid into memory once: each run begins with it.
+    pub image: LaidImage,
     /// It is told how far runs are.
     pub observer: &'a O,
     ghost range: { IsGuest settings.now },
@@ -89,7 +90,8 @@ impl<'a, O> Guest<'a, O> {
         ensures refused { (cause : ImageCause) → IsImageCause settings.now file.now cause →
             (result ≡ Err (refusals.Image cause)) ⊎ (result ≡ Err refusals.OutOfMemory) }
     {
-        let image = load(alloc, settings.format, file, settings.pages)?;
+        let loaded = load(alloc, settings.format, file, settings.pages)?;
+        let image = LaidImage::new(alloc, loaded)?;
         Ok(Guest {
             alloc,
             settings,
@@ -116,7 +118,7 @@ impl<'a, O> Guest<'a, O> {
         let Ok(input) = Vec::from_slice(self.alloc, self.input) else {
             return Err(OutOfMemory);
         };
-        refused(UntracedMachine::open(self.alloc, &self.image, input, plan))
+        refused(UntracedMachine::open_laid(self.alloc, &self.image, input, plan))
     }
 }
 

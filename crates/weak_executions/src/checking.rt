@@ -62,7 +62,7 @@ pub fn check_by(
         f.output.items) }
 {
     let order = record.order_by(alloc, placing)?;
-    let trace = opening_trace(alloc, opening.image)?;
+    let trace = opening_trace(alloc, opening.image.image())?;
     let mut execution = opened(alloc, opening)?;
     let finding = find(alloc, &mut execution, record.script(), &trace, &order);
     drop(execution);
@@ -109,7 +109,7 @@ pub fn is_allowed(
     requires { length opening.now.harts.now ≤ MOST_HARTS }
 {
     let order = record.order_by(alloc, placing)?;
-    let trace = opening_trace(alloc, opening.image)?;
+    let trace = opening_trace(alloc, opening.image.image())?;
     let mut execution = opened(alloc, opening)?;
     let allowed = allows(alloc, &mut execution, record.script(), &trace, &order);
     drop(execution);

@@ -19,6 +19,7 @@ use guest_rounds::opening_harts;
 use host_io::Sink;
 use hunt_table::write_table;
 use hunter::{HuntSettings, check_hunt, check_ranges};
+use laid_image::LaidImage;
 use machine::load;
 use plan_hunt::{HuntObserver, Tally};
 use std::alloc::Global;
@@ -69,7 +70,7 @@ pub fn hunt_weakly<S: Sink, O: HuntObserver + Sync, R: Threads + Wait + Sync>(
     Ok(tally)
 }
 
-/// The table of a weak hunt. The image is loaded once.
+/// The table of a weak hunt. The image is loaded and laid into memory once.
 fn tabulate_weakly<O: HuntObserver + Sync, R: Threads + Wait + Sync>(
     rt: &R,
     alloc: Global,
@@ -94,8 +95,9 @@ fn tabulate_weakly<O: HuntObserver + Sync, R: Threads + Wait + Sync>(
     let image = load(alloc, settings.format, image, settings.pages)?;
     check_ranges(settings)?;
     let harts = opening_harts(alloc, image.entry(), settings.harts)?;
+    let laid = LaidImage::new(alloc, image)?;
     let opening = Opening {
-        image: &image,
+        image: &laid,
         input,
         harts: &harts,
     };

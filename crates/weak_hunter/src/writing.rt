@@ -21,6 +21,7 @@ use execution_makers::{ScriptedGuest, execution_of_script};
 use execution_scripts::{ExecutionFile, Finding, Verdict, check_file};
 use guest_rounds::opening_harts;
 use hunter::{HuntSettings, check_guest};
+use laid_image::LaidImage;
 use machine::load;
 use pages::OutOfMemory;
 use round_schedule::MOST_HARTS;
@@ -59,8 +60,7 @@ pub fn weak_execution(
 {
     check_guest(settings)?;
     let loaded = load(alloc, settings.format, image, settings.pages)?;
-    let made = executed(alloc, &loaded, input, settings, steps, number);
-    drop(loaded);
+    let made = executed(alloc, loaded, input, settings, steps, number);
     let guest = ScriptedGuest {
         format: settings.format,
         pages: settings.pages,
@@ -91,7 +91,7 @@ fn confirmed_execution(
 /// The machine that made the execution of a number, with its record.
 fn executed(
     alloc: Global,
-    image: &Image,
+    image: Image,
     input: &[u8],
     settings: &HuntSettings,
     steps: u32,
@@ -101,8 +101,9 @@ fn executed(
     requires few_harts { settings.now.harts ≤ MOST_HARTS }
 {
     let harts = opening_harts(alloc, image.entry(), settings.harts)?;
+    let laid = LaidImage::new(alloc, image)?;
     let opening = Opening {
-        image,
+        image: &laid,
         input,
         harts: &harts,
     };

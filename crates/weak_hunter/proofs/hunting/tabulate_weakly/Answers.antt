@@ -1,13 +1,16 @@
-use Rattle.std.proofs.Common.{◌∙◌, ℕ, ap}
+use Rattle.std.proofs.Common.{◌∙◌, ℕ, ap, sym}
 use Rattle.std.proofs.lemmas.Result.{err_from_is_err_and}
+use Rattle.elf_loader.specs.Image.{Loaded}
 use Rattle.guest_rounds.specs.Opening.{opening_harts}
 use Rattle.weak_hunter.proofs.Hunted.{hunted_so}
 use Rattle.weak_hunter.proofs.hunting.tabulate_weakly.Goals as goal
 
 pub returns-clause-table : goal.returns-clause-table
 returns-clause-table g c =
-    hunted_so c.args.settings.now c.args.image.now c.args.input.now c.in_ok-image.image c.deref.result.now c.in_ok-tally.tally.done c.in_ok-tally.tally.rows.items c.in_ok-image.ensures.image
-    (c.deref.ensures.value ∙ c.in_ok-harts.ensures.harts ∙ ap (λ (e : ℕ). opening_harts e c.args.settings.now.harts 0 c.args.settings.now.harts) c.entry.ensures.entry) c.in_ok-tally.ensures.table
+    let laid = c.in_ok-laid.ensures in
+    hunted_so c.args.settings.now c.args.image.now c.args.input.now c.in_ok-laid.laid c.deref.result.now c.in_ok-tally.tally.done c.in_ok-tally.tally.rows.items (laid ∙ c.in_ok-image.ensures.image)
+    (c.deref.ensures.value ∙ c.in_ok-harts.ensures.harts ∙ ap (λ (e : ℕ). opening_harts e c.args.settings.now.harts 0 c.args.settings.now.harts) (c.entry.ensures.entry ∙ ap (λ (i : Loaded). i.entry) (sym laid)))
+    c.in_ok-tally.ensures.table
 
 pub returns-in_err-tally-clause-errors : goal.returns-in_err-tally-clause-errors
 returns-in_err-tally-clause-errors g c = λ _.
