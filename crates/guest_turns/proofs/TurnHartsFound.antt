@@ -1,5 +1,5 @@
 -- The harts along the turns that are done: instruction by instruction, turn by turn, and from the rounds of all harts.
-use Rattle.std.proofs.Common.{◌≡◌, ℕ, zero, suc, ◌+◌, ◌-◌, ◌<◌, ◌≤◌, Bool, true, false, cond, List, [], ◌∷◌, ◌++◌, length, take, get_or, is_some, Option, option_to_list, refl, sym, ◌∙◌, ap, subst, arith, append_assoc, append-nil}
+use Rattle.std.proofs.Common.{◌≡◌, ℕ, zero, suc, ◌+◌, ◌-◌, ◌<◌, ◌≤◌, Bool, true, false, cond, List, [], ◌∷◌, ◌++◌, length, take, get_or, is_some, Option, option_to_list, refl, sym, ◌∙◌, ap, subst, arith, append_assoc, append-nil, length-append}
 use Rattle.pages.specs.Memory.{IsBytes, Memory, after, stored}
 use Rattle.pages.specs.Paged.{Paged}
 use Rattle.pages.specs.declared.access.Range.{Range}
@@ -30,12 +30,12 @@ use Rattle.serial_phase.specs.declared.shared.SharedState.{SharedState}
 use Rattle.serial_phase.specs.declared.shared.Turn.{Turn}
 use Rattle.serial_phase.proofs.Came.{Came}
 use Rattle.serial_phase.proofs.ShownCode.{ShowsCode}
-use Rattle.serial_phase.proofs.TurnUnderWay.{Ends, IsNext, ends_stopped, ends_waiting, outcome_at, under_more, under_waited, went}
+use Rattle.serial_phase.proofs.TurnUnderWay.{Ends, IsNext, ends_off, ends_over, ends_stopped, ends_waiting, outcome_at, under_first, under_more, under_waited, went}
 use Rattle.hart_rounds.specs.declared.hart_end.HartEnd.{HartEnd}
 use Rattle.guest_turns.specs.Asked.{ready_for_turns, reserving_turn_begun}
 use Rattle.guest_rounds.specs.Guests.{Shared}
 use Rattle.guest_rounds.specs.HartEnds.{AreEndsOf}
-use Rattle.guest_turns.specs.ReservingTurnHarts.{AddsTurns, WalksTurn, by_reserving_answer, reserving_turns_from, turns_in_reserving_phase}
+use Rattle.guest_turns.specs.ReservingTurnHarts.{AddsTurns, ShowsTurn, ShowsTurns, WalksTurn, by_reserving_answer, reserving_turns_from, turns_in_reserving_phase}
 use Rattle.guest_turns.specs.TurnHarts.{turns_in_round}
 use Rattle.guest_turns.proofs.AskedTurns.{next_turn, rest, turn_for}
 use Rattle.guest_rounds.proofs.EndParts.{hart_is, waits_is}
@@ -83,9 +83,6 @@ next_left turn x y left z some on same n =
     ∙ ap (λ (o : SerialOutcome Hart ConsoleState). by_reserving_answer turn.hart o.answer (reserving_turn_at y) o later) (same_next turn x y same)
     ∙ ap (λ (b : Stepped). by_reserving_answer turn.hart b (reserving_turn_at y) (outcome_at turn y) later) (sym n.0)
 
-pub harts_first : (turn : Turn) (old : List Hart) (x : At) → old ++ harts_left turn x turn.budget x ≡ old ++ harts_left turn x turn.budget x
-harts_first turn old x = refl
-
 harts_more : (turn : Turn) (left : ℕ) (old passed more : List Hart) (x y : At) (z : Came) (l : Turns) (a : Option Access) → 0 < left → is_some y.hart.stop ≡ false → z.answer ≡ Done a → IsNext turn y z →
     l.current ≡ z.state.log.current ++ option_to_list a → more ≡ passed ++ y.hart ∷ [] → Walked turn left old passed x y → old ++ harts_left turn x turn.budget x ≡ more ++ harts_left turn x (left - 1) (went z l z.state.shows)
 harts_more turn left old passed more x y z l a some on is n log pushed u =
@@ -131,14 +128,14 @@ harts_stopped : (turn : Turn) (left : ℕ) (old passed : List Hart) (x y : At) (
     Walked turn left old passed x y → passed ++ z.hart ∷ [] ≡ old ++ harts_left turn x turn.budget x
 harts_stopped turn left old passed x y z code some on is n u = harts_ended turn left old passed x y z some on (λ o f. ap (λ (b : Stepped). by_reserving_answer turn.hart b (reserving_turn_at y) o f) is) n u
 
-pub harts_off : (turn : Turn) (left : ℕ) (old passed : List Hart) (x y : At) → 0 < left → is_some y.hart.stop ≡ true → Walked turn left old passed x y → passed ++ y.hart ∷ [] ≡ old ++ harts_left turn x turn.budget x
+harts_off : (turn : Turn) (left : ℕ) (old passed : List Hart) (x y : At) → 0 < left → is_some y.hart.stop ≡ true → Walked turn left old passed x y → passed ++ y.hart ∷ [] ≡ old ++ harts_left turn x turn.budget x
 harts_off turn left old passed x y some off u = sym (u.harts ∙ ap (λ (hs : List Hart). passed ++ hs) (stopped_left turn x y left some off))
 
-pub harts_over : (turn : Turn) (left : ℕ) (old passed : List Hart) (x y : At) → left ≡ 0 → Walked turn left old passed x y → passed ++ y.hart ∷ [] ≡ old ++ harts_left turn x turn.budget x
+harts_over : (turn : Turn) (left : ℕ) (old passed : List Hart) (x y : At) → left ≡ 0 → Walked turn left old passed x y → passed ++ y.hart ∷ [] ≡ old ++ harts_left turn x turn.budget x
 harts_over turn left old passed x y none u = sym (u.harts ∙ ap (λ (hs : List Hart). passed ++ hs) (none_left turn x y left none))
 
 -- the whole turn, whose log is empty at its beginning
-pub walks : (turn : Turn) (old passed : List Hart) (x y : At) → x.state.log.current ≡ [] → passed ++ y.hart ∷ [] ≡ old ++ harts_left turn x turn.budget x → Ends turn x y →
+walks : (turn : Turn) (old passed : List Hart) (x y : At) → x.state.log.current ≡ [] → passed ++ y.hart ∷ [] ≡ old ++ harts_left turn x turn.budget x → Ends turn x y →
     WalksTurn turn x.hart x.state old y.hart y.state passed
 walks turn old passed x y began harts e = record {
   harts = harts
@@ -149,7 +146,7 @@ walks turn old passed x y began harts e = record {
 
 -- ---- with a spare page before the next instruction
 
-pub walked_more : (turn : Turn) (left : ℕ) (old passed more : List Hart) (x y : At) (p : Paged) (shows : ShowsCode p y.state.code) (z : Came) (l : Turns) (later : ShowsCode z.state.pages z.state.code) (a : Option Access) →
+walked_more : (turn : Turn) (left : ℕ) (old passed more : List Hart) (x y : At) (p : Paged) (shows : ShowsCode p y.state.code) (z : Came) (l : Turns) (later : ShowsCode z.state.pages z.state.code) (a : Option Access) →
     0 < left → is_some y.hart.stop ≡ false → z.answer ≡ Done a → TakesDirectly y.state.pages [] p → IsNext turn (roomier_at y p shows) z →
     l.current ≡ z.state.log.current ++ option_to_list a → l.closed ≡ z.state.log.closed → z.state.log.room ≤ l.room + 1 → more ≡ passed ++ y.hart ∷ [] →
     Walked turn left old passed x y → Walked turn (left - 1) old more x (went z l later)
@@ -161,7 +158,7 @@ walked_more turn left old passed more x y p shows z l later a some on is still n
       harts = harts_more turn left old passed more x y' z l a some on is n log pushed u';
     }
 
-pub walks_waiting : (turn : Turn) (left : ℕ) (old passed : List Hart) (x y : At) (p : Paged) (shows : ShowsCode p y.state.code) (z : Came) →
+walks_waiting : (turn : Turn) (left : ℕ) (old passed : List Hart) (x y : At) (p : Paged) (shows : ShowsCode p y.state.code) (z : Came) →
     0 < left → is_some y.hart.stop ≡ false → x.state.log.current ≡ [] → z.answer ≡ Waits → TakesDirectly y.state.pages [] p → IsNext turn (roomier_at y p shows) z →
     Walked turn left old passed x y → WalksTurn turn x.hart x.state old z.hart z.state passed
 walks_waiting turn left old passed x y p shows z some on began is still n u =
@@ -170,7 +167,7 @@ walks_waiting turn left old passed x y p shows z some on began is still n u =
     walks turn old passed x (record { hart = z.hart; state = z.state }) began
     (harts_waiting turn left old passed x y' z some on is n u') (ends_waiting turn left x y' z some on began is n u'.under)
 
-pub walks_stopped : (turn : Turn) (left : ℕ) (old passed : List Hart) (x y : At) (p : Paged) (shows : ShowsCode p y.state.code) (z : Came) (code : ℕ) →
+walks_stopped : (turn : Turn) (left : ℕ) (old passed : List Hart) (x y : At) (p : Paged) (shows : ShowsCode p y.state.code) (z : Came) (code : ℕ) →
     0 < left → is_some y.hart.stop ≡ false → x.state.log.current ≡ [] → z.answer ≡ Stopped code → TakesDirectly y.state.pages [] p → IsNext turn (roomier_at y p shows) z →
     Walked turn left old passed x y → WalksTurn turn x.hart x.state old z.hart z.state passed
 walks_stopped turn left old passed x y p shows z code some on began is still n u =
@@ -178,6 +175,67 @@ walks_stopped turn left old passed x y p shows z code some on began is still n u
     let y' = roomier_at y p shows in
     walks turn old passed x (record { hart = z.hart; state = z.state }) began
     (harts_stopped turn left old passed x y' z code some on is n u') (ends_stopped turn left x y' z code some on began is n u'.under)
+
+-- ---- shown to a visitor, of whom that is what it knows
+
+-- a turn of which that many instructions are done has come to y: the harts before them were shown
+pub record Shows {V : Type 0} (knows : V → V → List (List Hart) → List Hart → Type 0) (turn : Turn) (done : ℕ) (v w : V) (x y : At) : Type 0 where
+  pub along : List Hart
+  pub count : length along ≡ done
+  pub walked : Walked turn (turn.budget - done) [] along x y
+  pub shown : (first : V) (turns : List (List Hart)) → length turns ≡ turn.hart → knows first v turns [] → knows first w turns along
+
+pub shows_first : {V : Type 0} (knows : V → V → List (List Hart) → List Hart → Type 0) (turn : Turn) (v : V) (x : At) → Shows knows turn 0 v v x x
+shows_first knows turn v x =
+    let all : turn.budget ≡ turn.budget - 0 = omega arith in
+    record {
+      along = [];
+      count = refl;
+      walked = subst (λ (n : ℕ). Walked turn n [] [] x x) all (record { under = under_first turn x; harts = refl });
+      shown = λ first turns e k. k;
+    }
+
+module _ {V : Type 0} (knows : V → V → List (List Hart) → List Hart → Type 0) (turn : Turn) (done : ℕ) (v w : V) (x y : At) (u : Shows knows turn done v w x y) where
+  pub shows_more : (w' : V) (p : Paged) (shows : ShowsCode p y.state.code) (z : Came) (l : Turns) (later : ShowsCode z.state.pages z.state.code) (a : Option Access) →
+      done < turn.budget → is_some y.hart.stop ≡ false → z.answer ≡ Done a → TakesDirectly y.state.pages [] p → IsNext turn (roomier_at y p shows) z →
+      l.current ≡ z.state.log.current ++ option_to_list a → l.closed ≡ z.state.log.closed → z.state.log.room ≤ l.room + 1 →
+      ((first : V) (turns : List (List Hart)) (along : List Hart) → length turns ≡ turn.hart → length along ≡ done → knows first w turns along → knows first w' turns (along ++ y.hart ∷ [])) →
+      Shows knows turn (done + 1) v w' x (went z l later)
+  shows_more w' p shows z l later a some on is still n log closed room takes =
+      let next : (turn.budget - done) - 1 ≡ turn.budget - (done + 1) = omega arith in
+      let more : List Hart = u.along ++ y.hart ∷ [] in
+      record {
+        along = more;
+        count = omega (arith, length-append u.along (y.hart ∷ []), u.count);
+        walked = subst (λ (k : ℕ). Walked turn k [] more x (went z l later)) next
+            (walked_more turn (turn.budget - done) [] u.along more x y p shows z l later a (omega (arith, some)) on is still n log closed room refl u.walked);
+        shown = λ first turns e k. takes first turns u.along e u.count (u.shown first turns e k);
+      }
+
+  turn_shown : (g : Hart) (t : SharedState) → WalksTurn turn x.hart x.state [] g t u.along → ShowsTurn knows turn x.hart x.state v done g t w
+  turn_shown g t walks = record { along = u.along; count = u.count; walks = walks; shown = u.shown }
+
+  pub shows_off : x.state.log.current ≡ [] → done < turn.budget → is_some y.hart.stop ≡ true → ShowsTurn knows turn x.hart x.state v done y.hart y.state w
+  shows_off began some off =
+      let left : 0 < turn.budget - done = omega (arith, some) in
+      turn_shown y.hart y.state
+      (walks turn [] u.along x y began (harts_off turn (turn.budget - done) [] u.along x y left off u.walked) (ends_off turn (turn.budget - done) x y left off began u.walked.under))
+
+  pub shows_waiting : (p : Paged) (shows : ShowsCode p y.state.code) (z : Came) → x.state.log.current ≡ [] → done < turn.budget → is_some y.hart.stop ≡ false → z.answer ≡ Waits →
+      TakesDirectly y.state.pages [] p → IsNext turn (roomier_at y p shows) z → ShowsTurn knows turn x.hart x.state v done z.hart z.state w
+  shows_waiting p shows z began some on is still n =
+      turn_shown z.hart z.state (walks_waiting turn (turn.budget - done) [] u.along x y p shows z (omega (arith, some)) on began is still n u.walked)
+
+  pub shows_stopped : (p : Paged) (shows : ShowsCode p y.state.code) (z : Came) (code : ℕ) → x.state.log.current ≡ [] → done < turn.budget → is_some y.hart.stop ≡ false → z.answer ≡ Stopped code →
+      TakesDirectly y.state.pages [] p → IsNext turn (roomier_at y p shows) z → ShowsTurn knows turn x.hart x.state v done z.hart z.state w
+  shows_stopped p shows z code began some on is still n =
+      turn_shown z.hart z.state (walks_stopped turn (turn.budget - done) [] u.along x y p shows z code (omega (arith, some)) on began is still n u.walked)
+
+  pub shows_over : x.state.log.current ≡ [] → turn.budget ≤ done → ShowsTurn knows turn x.hart x.state v done y.hart y.state w
+  shows_over began all =
+      let left : turn.budget - done ≡ 0 = omega (arith, all) in
+      turn_shown y.hart y.state
+      (walks turn [] u.along x y began (harts_over turn (turn.budget - done) [] u.along x y left u.walked) (ends_over turn (turn.budget - done) x y left began u.walked.under))
 
 -- ---- turn by turn
 
@@ -232,7 +290,7 @@ all_taken (o ∷ os) = ap (λ (x : List HartEnd). o ∷ x) (all_taken os)
 rest_is : (o : HartEnd) (os : List HartEnd) → rest (o ∷ os) ≡ os
 rest_is o os = let e : length (o ∷ os) - 1 ≡ length os = omega arith in ap (λ (n : ℕ). take n os) e ∙ all_taken os
 
-pub none_added : (turn : Turn) (os : List HartEnd) (s : SharedState) (old : List (List Hart)) → length os < 1 → AddsTurns turn os s old old
+none_added : (turn : Turn) (os : List HartEnd) (s : SharedState) (old : List (List Hart)) → length os < 1 → AddsTurns turn os s old old
 none_added turn [] s old lt = no_turns turn s old
 none_added turn (o ∷ os) s old lt = absurd (omega (arith, lt))
 
@@ -251,13 +309,40 @@ added_roomed : (turn : Turn) (os : List HartEnd) (s : SharedState) (d : Roomed) 
     AddsTurns turn os (record s { shows = shows; console = d; log = k }) old new → AddsTurns turn os s old new
 added_roomed turn os s d k shows old new same adds logs m rs c a eb ec et = adds logs m rs c a eb (ec ∙ sym same) et
 
-pub one_roomed : (turn of_first : Turn) (o : HartEnd) (os : List HartEnd) (s s' : SharedState) (d : Roomed) (l k : Turns) (shows : ShowsCode s.pages s.code) (h : Hart) (none passed : List Hart) (old more new : List (List Hart)) →
+one_roomed : (turn of_first : Turn) (o : HartEnd) (os : List HartEnd) (s s' : SharedState) (d : Roomed) (l k : Turns) (shows : ShowsCode s.pages s.code) (h : Hart) (none passed : List Hart) (old more new : List (List Hart)) →
     1 ≤ length os → o ≡ get_or os 0 o → of_first ≡ turn_for turn o → d.console ≡ s.console.console → none ≡ [] → WalksTurn of_first o.hart (record s { shows = shows; console = d; log = l }) none h s' passed →
     more ≡ old ++ (passed ++ h ∷ []) ∷ [] → AddsTurns (next_turn turn) (rest os) (record s' { log = k }) more new → AddsTurns turn os s old new
 one_roomed turn of_first o os s s' d l k shows h none passed old more new some is e same empty x pushed y =
     let room : SharedState = record s { shows = shows; console = d; log = l } in
     let x' = subst (λ (hs : List Hart). WalksTurn of_first o.hart room hs h s' passed) empty x in
     added_roomed turn os s d l shows old new same (one_added turn of_first o os room s' k h passed old more new some is e x' pushed y)
+
+-- onto those before
+added_behind : (turn : Turn) (os : List HartEnd) (s : SharedState) (old along : List (List Hart)) → AddsTurns turn os s [] along → AddsTurns turn os s old (old ++ along)
+added_behind turn os s old along adds logs m rs c a eb ec et = ap (λ (hss : List (List Hart)). old ++ hss) (adds logs m rs c a eb ec et)
+
+pub none_shown : {V : Type 0} (knows : V → V → List (List Hart) → List Hart → Type 0) (turn : Turn) (os : List HartEnd) (s : SharedState) (v : V) → length os < 1 → ShowsTurns knows turn os s v v
+none_shown knows turn os s v none = record {
+  along = [];
+  adds = none_added turn os s [] none;
+  shown = λ first turns e k. subst (λ hss. knows first v hss []) (sym (append-nil turns)) k;
+}
+
+pub one_shown : {V : Type 0} (knows : V → V → List (List Hart) → List Hart → Type 0) (turn of_first : Turn) (o : HartEnd) (os : List HartEnd) (s s' : SharedState) (d : Roomed) (l k : Turns) (shows : ShowsCode s.pages s.code) (later : ShowsCode s'.pages s'.code) (h : Hart)
+    (v w w' u : V) (n : ℕ) → 1 ≤ length os → o ≡ get_or os 0 o → of_first ≡ turn_for turn o → d.console ≡ s.console.console →
+    ShowsTurn knows of_first o.hart (record s { shows = shows; console = d; log = l }) v n h s' w →
+    ((first : V) (turns : List (List Hart)) (along : List Hart) → length turns ≡ turn.hart → length along ≡ n → knows first w turns along → knows first w' (turns ++ (along ++ h ∷ []) ∷ []) []) →
+    ShowsTurns knows (next_turn turn) (rest os) (record s' { shows = later; log = k }) w' u → ShowsTurns knows turn os s v u
+one_shown knows turn of_first o os s s' d l k shows later h v w w' u n some is e same x takes y =
+    let here : List Hart = x.along ++ h ∷ [] in
+    let number : of_first.hart ≡ turn.hart = ap (λ (t : Turn). t.hart) e in
+    record {
+      along = here ∷ y.along;
+      adds = one_roomed turn of_first o os s s' d l k shows h [] x.along [] (here ∷ []) (here ∷ y.along) some is e same refl x.walks refl (added_behind (next_turn turn) (rest os) (record s' { log = k }) (here ∷ []) y.along y.adds);
+      shown = λ first turns many known.
+          subst (λ hss. knows first u hss []) (append_assoc turns (here ∷ []) y.along)
+          (y.shown first (turns ++ here ∷ []) (omega (arith, length-append turns (here ∷ []), many)) (takes first turns x.along many x.count (x.shown first turns (many ∙ sym number) known)));
+    }
 
 -- ---- after a commit
 
@@ -275,11 +360,10 @@ committed_turns logs turn round budget old rs os ready start hss first a same co
 
 -- ---- in the next round
 
-pub round_turns : (logs : Bool) (plan : Planned) (n : ℕ) (hs : List Hart) (p : Paged) (t : List (Option Span)) (c : ConsoleState) (es : List Event) (os : List HartEnd) (hss : List (List Hart)) →
-    AreEndsOf logs p.memory (hart_rounds (words_of p.memory.code) p.memory.bytes (quotas_of plan n) hs) os → IsBytes p.memory.bytes → Tied t es → length t ≡ length hs →
-    ((ls : Bool) (rs : List (HartRound Hart)) → AreEndsOf ls p.memory rs os →
-    hss ≡ turns_in_reserving_phase (words_of p.memory.code) plan.budget (n + 1) 0 rs (ready_for_turns (record { memory = p.memory; reservations = t; console = c }) rs)) →
-    hss ≡ turns_in_round (words_of p.memory.code) plan.budget (quotas_of plan) (record { harts = hs; bytes = p.memory.bytes; console = c; trace = es; rounds = n })
-round_turns logs plan n hs p t c es os hss a bytes tied size found =
-    found logs _ a
-    ∙ round_harts (words_of p.memory.code) plan.budget (quotas_of plan) (record { state = record { harts = hs; bytes = p.memory.bytes; console = c; trace = es; rounds = n }; reservations = t }) (sound p.memory.code) bytes tied size
+pub round_turns : (plan : Planned) (n : ℕ) (hs : List Hart) (p : Paged) (t : List (Option Span)) (c : ConsoleState) (es : List Event) →
+    IsBytes p.memory.bytes → Tied t es → length t ≡ length hs →
+    (let rs = hart_rounds (words_of p.memory.code) p.memory.bytes (quotas_of plan n) hs in
+    turns_in_reserving_phase (words_of p.memory.code) plan.budget (n + 1) 0 rs (ready_for_turns (record { memory = p.memory; reservations = t; console = c }) rs))
+    ≡ turns_in_round (words_of p.memory.code) plan.budget (quotas_of plan) (record { harts = hs; bytes = p.memory.bytes; console = c; trace = es; rounds = n })
+round_turns plan n hs p t c es bytes tied size =
+    round_harts (words_of p.memory.code) plan.budget (quotas_of plan) (record { state = record { harts = hs; bytes = p.memory.bytes; console = c; trace = es; rounds = n }; reservations = t }) (sound p.memory.code) bytes tied size

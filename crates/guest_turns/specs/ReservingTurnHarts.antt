@@ -47,3 +47,18 @@ AddsTurns turn os s old new =
     (logs : Bool) (m : Memory) (rs : List (HartRound Hart)) (c : ReservingPhase Hart ConsoleState) → AreEndsOf logs m rs os →
     c.bytes ≡ s.pages.memory.bytes → c.console ≡ s.console.console → c.reservations ≡ s.reservations →
     new ≡ old ++ turns_in_reserving_phase (words_of s.pages.memory.code) turn.budget turn.round turn.hart rs c
+
+-- ---- shown to a visitor, of whom that is what it knows
+
+-- a turn of n instructions is done, and the hart is as it leaves it; the harts before its instructions were shown
+pub record ShowsTurn {V : Type 0} (knows : V → V → List (List Hart) → List Hart → Type 0) (turn : Turn) (h : Hart) (s : SharedState) (v : V) (n : ℕ) (g : Hart) (t : SharedState) (w : V) : Type 0 where
+  pub along : List Hart
+  pub count : length along ≡ n
+  pub walks : WalksTurn turn h s [] g t along
+  pub shown : (first : V) (turns : List (List Hart)) → length turns ≡ turn.hart → knows first v turns [] → knows first w turns along
+
+-- the harts along the turns of those whose rounds left these, of which the first one's turn would be this, were shown
+pub record ShowsTurns {V : Type 0} (knows : V → V → List (List Hart) → List Hart → Type 0) (turn : Turn) (os : List HartEnd) (s : SharedState) (v w : V) : Type 0 where
+  pub along : List (List Hart)
+  pub adds : AddsTurns turn os s [] along
+  pub shown : (first : V) (turns : List (List Hart)) → length turns ≡ turn.hart → knows first v turns [] → knows first w (turns ++ along) []

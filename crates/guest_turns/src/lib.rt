@@ -6,7 +6,9 @@ mod asked_turn;
 mod hart_in_round;
 mod number_asked;
 mod turn_harts;
+mod visiting;
 
 pub use hart_in_round::sight_in_round;
 pub use number_asked::asks_in_round;
-pub use turn_harts::{turns_end_the_past, turns_in_round};
+pub use turn_harts::{turns_end_the_past, visit_turns};
+pub use visiting::TurnVisitor;

@@ -1,4 +1,4 @@
-ghost use Rattle.std.specs.Prelude.{◌≡◌, ◌<◌, ◌≤◌, ◌+◌, ◌^◌, ◌++◌, [], Bool, List, length, map, IfOk, OnOk, option_to_list};
+ghost use Rattle.std.specs.Prelude.{◌≡◌, ◌<◌, ◌≤◌, ◌+◌, ◌^◌, ◌++◌, [], Bool, List, length, IfOk, OnOk, option_to_list};
 ghost use Rattle.pages.specs.Memory.{TouchesNoCode};
 ghost use Rattle.round_schedule.specs.declared.event.Event.{Event};
 ghost use Rattle.round_schedule.specs.Schedule.{HartRound, all_stores};
@@ -11,11 +11,12 @@ ghost use Rattle.serial_phase.specs.Roomed.{HasRoom};
 ghost use Rattle.guest_rounds.specs.Guests.{guest_state, shared_of};
 ghost use Rattle.guest_rounds.specs.HartEnds.{AreFit, AreEndsOf};
 ghost use Rattle.guest_turns.specs.Asked.{ready_for_turns};
-ghost use Rattle.guest_turns.specs.ReservingTurnHarts.{AddsTurns, WalksTurn, turns_in_reserving_phase};
+ghost use Rattle.guest_turns.specs.ReservingTurnHarts.{ShowsTurn, ShowsTurns, turns_in_reserving_phase};
 ghost use Rattle.guest_turns.specs.TurnHarts.{TurnsEndThePast, turns_in_round};
 ghost use Rattle.round_schedule.specs.Bounds.{AreWorkers};
 
 use crate::asked_turn::turn_of;
+use crate::visiting::TurnVisitor;
 use guest_rounds::{Crew, GuestState, HalfRound, commit, make_turn_room};
 use hart_rounds::HartEnd;
 use hart_step::Hart;
@@ -27,27 +28,28 @@ use serial_phase::{SerialLog, SharedState, Turn, serve};
 use std::sync::Wait;
 use std::thread::Threads;
 
-/// What `harts_in_turns` gives of a hart is what its past in the round ends with, from where its part of the parallel phase ends.
+/// What `visit_turns` shows of a hart is what its past in the round ends with, from where its part of the parallel phase ends.
 pub fn turns_end_the_past<H, C>()
     ensures { TurnsEndThePast H C }
 {}
 
-/// The harts along the serial turns of the round after `done` rounds of a guest: of each hart, in hart order, what it is before each
-/// instruction of its turn, and as the turn leaves it, its stop told. One that has no turn is there once, as its part of the parallel
-/// phase left it.
-pub fn turns_in_round<R: Threads + Wait + Sync>(
+/// Shows a visitor the harts along the serial turns of the round after `done` rounds of a guest: of each hart, in hart order, what it
+/// is before each instruction of its turn, and as the turn leaves it, its stop told. One that has no turn is shown once, as its part
+/// of the parallel phase left it.
+pub fn visit_turns<V: TurnVisitor, R: Threads + Wait + Sync>(
     crew: &Crew<'_, Open, R>,
     guest: GuestState,
     plan: &Plan,
     done: u32,
-) -> Result<Vec<Vec<Hart>>, OutOfMemory>
+    visitor: &mut V,
+) -> Result<(), OutOfMemory>
     requires workers { AreWorkers crew.now.workers }
     requires harts { length guest.harts ≡ plan.now.harts }
     requires done { done + 1 < 2 ^ 32 }
-    ensures { IfOk result (λ v. (es : List Event) → Tied guest.shared.reservations es →
-        map (λ xs. xs.items) v.items ≡ turns_in_round (words_of guest.shared.memory.code)
-        plan.now.budget
-        (quotas_of plan.now) (guest_state done es guest)) }
+    ensures { OnOk result ((es : List Event) → Tied guest.shared.reservations es → (first : V) →
+        V.knows first visitor.old [] [] → V.knows first visitor.new (turns_in_round
+        (words_of guest.shared.memory.code) plan.now.budget (quotas_of plan.now)
+        (guest_state done es guest)) []) }
 {
     // The types keep: bytes in memory, at most 64 harts, and a budget of at most 1,000.
     guest.pages().bytes_fit();
@@ -55,17 +57,25 @@ pub fn turns_in_round<R: Threads + Wait + Sync>(
     let budget = plan.budget();
     let half = guest.into_half_round(crew, plan, done)?;
     let HalfRound { mut shared, ends } = half;
-    walk_turns(crew, &mut shared, ends.as_slice(), done + 1, budget)
+    visit_committed(
+        crew,
+        &mut shared,
+        ends.as_slice(),
+        done + 1,
+        budget,
+        visitor,
+    )
 }
 
-/// The harts along the turns of the serial phase that follows what these rounds left.
-fn walk_turns<G, R: Threads + Sync>(
+/// Shows the harts along the turns of the serial phase that follows what these rounds left.
+fn visit_committed<V: TurnVisitor, G, R: Threads + Sync>(
     crew: &Crew<'_, G, R>,
     shared: &mut SharedState,
     ends: &[HartEnd],
     round: u32,
     budget: u32,
-) -> Result<Vec<Vec<Hart>>, OutOfMemory>
+    visitor: &mut V,
+) -> Result<(), OutOfMemory>
     requires workers { 1 ≤ crew.now.workers }
     requires rounds { (logs : Bool) × (rs : List (HartRound Hart)) ×
         AreEndsOf logs shared.old.pages.memory rs ends.now ×
@@ -74,10 +84,11 @@ fn walk_turns<G, R: Threads + Sync>(
     requires fits { AreFit shared.old.pages.memory ends.now }
     requires size { length shared.old.reservations ≡ length ends.now }
     requires budget { budget ≤ 1000 }
-    ensures { IfOk result (λ v. (logs : Bool) (rs : List (HartRound Hart)) →
-        AreEndsOf logs shared.old.pages.memory rs ends.now → map (λ xs. xs.items) v.items ≡
-        turns_in_reserving_phase (words_of shared.old.pages.memory.code) budget round 0 rs
-        (ready_for_turns (shared_of shared.old) rs)) }
+    ensures { OnOk result ((logs : Bool) (rs : List (HartRound Hart)) →
+        AreEndsOf logs shared.old.pages.memory rs ends.now → (first : V) →
+        V.knows first visitor.old [] [] → V.knows first visitor.new (turns_in_reserving_phase
+        (words_of shared.old.pages.memory.code) budget round 0 rs
+        (ready_for_turns (shared_of shared.old) rs)) []) }
 {
     make_turn_room(shared, ends, 0)?;
     commit(crew, &mut shared.pages, &mut shared.reservations, ends);
@@ -86,23 +97,20 @@ fn walk_turns<G, R: Threads + Sync>(
         round,
         budget,
     };
-    let mut turns = Vec::new(shared.pages.allocator());
-    add_turns(shared, ends, first, &mut turns)?;
-    Ok(turns)
+    visit_each(shared, ends, first, visitor)
 }
 
-/// Does the turns of the waiting ones among these harts, of which the first one's turn would be this, and adds the harts along each.
-fn add_turns(
+/// Does the turns of the waiting ones among these harts, of which the first one's turn would be this, and shows the harts along each.
+fn visit_each<V: TurnVisitor>(
     shared: &mut SharedState,
     ends: &[HartEnd],
     turn: Turn,
-    turns: &mut Vec<Vec<Hart>>,
+    visitor: &mut V,
 ) -> Result<(), OutOfMemory>
     requires harts { turn.hart + length ends.now ≤ length shared.old.reservations }
     requires few { length shared.old.reservations ≤ MOST_HARTS }
     requires began { shared.old.log.current ≡ [] }
-    ensures { OnOk result (AddsTurns turn ends.now shared.old (map (λ xs. xs.items) turns.old.items)
-        (map (λ xs. xs.items) turns.new.items)) }
+    ensures { OnOk result (ShowsTurns V.knows turn ends.now shared.old visitor.old visitor.new) }
 {
     match ends {
         [] => Ok(()),
@@ -111,50 +119,48 @@ fn add_turns(
             shared.console.reserve(its.budget as usize)?;
             shared.log.reserve(its.budget as usize)?;
             let mut hart = end.hart;
-            let mut harts = Vec::new(shared.pages.allocator());
-            walk_turn(&mut hart, shared, its, &mut harts)?;
-            harts.push(hart)?;
-            turns.push(harts)?;
+            let count = visit_turn(&mut hart, shared, its, visitor)?;
+            visitor.after_turn(turn.hart, count, &hart)?;
             shared.log.clear();
             let next = Turn {
                 hart: turn.hart + 1,
                 ..turn
             };
-            add_turns(shared, rest, next, turns)
+            visit_each(shared, rest, next, visitor)
         }
     }
 }
 
-/// Does the turn of a hart, and adds what the hart is before each of the instructions that it does there.
-fn walk_turn(
+/// Does the turn of a hart, and shows what the hart is before each of the instructions that it does there. Answers how many they are.
+fn visit_turn<V: TurnVisitor>(
     h: &mut Hart,
     state: &mut SharedState,
     turn: Turn,
-    passed: &mut Vec<Hart>,
-) -> Result<(), OutOfMemory>
+    visitor: &mut V,
+) -> Result<u32, OutOfMemory>
     requires hart { turn.hart < length state.old.reservations }
     requires console { HasRoom turn.budget state.old.console }
     requires log { turn.budget ≤ state.old.log.room }
     requires began { state.old.log.current ≡ [] }
-    ensures { OnOk result (WalksTurn turn h.old state.old passed.old.items
-        h.new state.new passed.new.items) }
+    ensures { IfOk result (λ k. ShowsTurn V.knows turn h.old state.old visitor.old k
+        h.new state.new visitor.new) }
 {
-    let mut left = turn.budget;
-    while left > 0 {
+    let mut done = 0;
+    while done < turn.budget {
         if h.stop.is_some() {
-            return Ok(());
+            return Ok(done);
         }
         let before = *h;
         make_spare(&mut state.pages)?;
         match serve(h, state, turn.hart, turn.round) {
             Stepped::Done(access) => keep(&mut state.log, access),
-            Stepped::Waits => return Ok(()),
-            Stepped::Stopped(_) => return Ok(()),
+            Stepped::Waits => return Ok(done),
+            Stepped::Stopped(_) => return Ok(done),
         }
-        passed.push(before)?;
-        left -= 1;
+        visitor.before_instruction(turn.hart, done, &before)?;
+        done += 1;
     }
-    Ok(())
+    Ok(done)
 }
 
 /// Has a spare page for the next store, where it can need one: one at a time, since most turns store to few pages.

@@ -72,15 +72,6 @@ module _ {b : _} {g : Ghosts b} where
       subst (λ (n : ℕ). HasShared (shared + n) harts u w k m) (sym is)
       (shared_next shared harts shares u v w k l m from more x (subst (λ (h : ℕ). MatchBool shares (HasGatheredRounds (v.rounds ∷ []) h l m) (m ≡ l)) many one))
 
-  -- the seat may end a later round too
-  pub may_later : (n m harts : ℕ) (book : Bound) (k : Known (HartRound b g)) (blank : List (HartRound b g)) → n ≤ m → MayShare n harts book k blank → MayShare m harts book k blank
-  may_later n m harts book k blank later may = record {
-    caller = may.caller;
-    harts_are = may.harts_are;
-    later = omega (arith, may.later, later);
-    blank_is = may.blank_is;
-  }
-
   -- the seat may end the first round of all
   pub may_open : (n harts : ℕ) (book cook : Bound) (k l : Known (HartRound b g)) (blank : List (HartRound b g)) → cook ≡ book → l ≡ k → blank ≡ [] → IsCaller book.table book.harts k → k.round ≡ 0 → book.harts ≡ harts → MayShare n harts cook l blank
   may_open n harts book cook k l blank same sits none caller first many =

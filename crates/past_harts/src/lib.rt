@@ -12,11 +12,11 @@ mod run_code;
 mod turn_harts;
 
 pub use asking::{PastHarts, hart_after, sight_after};
-pub use guest_turns::turns_end_the_past;
+pub use guest_turns::{TurnVisitor, turns_end_the_past};
 pub use moment::{Moment, phase_number};
 pub use noting::run_noting;
 pub use number_asked::asks_number;
 pub use place::Place;
 pub use point::{Point, Side};
 pub use run_code::code_of_run;
-pub use turn_harts::harts_in_turns;
+pub use turn_harts::{harts_in_turns, visit_turns};

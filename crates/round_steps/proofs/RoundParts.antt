@@ -1,5 +1,5 @@
 -- The parts of a round, as they are walked over.
-use Rattle.std.proofs.Common.{◌≡◌, ℕ, zero, suc, ◌+◌, ◌-◌, ◌<◌, ◌==◌, ◌||◌, Bool, true, false, cond, List, [], ◌∷◌, ◌++◌, length, get_or, inl, inr, length-append, append_assoc, append-nil, add-one, slice_get, slice_index, is_some, Option, Some, None, refl, sym, ◌∙◌, ap, arith}
+use Rattle.std.proofs.Common.{◌≡◌, ℕ, zero, suc, ◌+◌, ◌-◌, ◌<◌, ◌==◌, ◌||◌, Bool, true, false, cond, List, [], ◌∷◌, ◌++◌, length, get_or, inl, inr, length-append, add-one, slice_get, slice_index, is_some, Option, Some, None, refl, sym, ◌∙◌, ap, arith}
 use Rattle.std.specs.Prelude.{◌⊎◌}
 use Rattle.std.proofs.Math.ListN.{get_or-append}
 use Rattle.std.proofs.Math.Seq.{get_or-append_seam}
@@ -10,14 +10,13 @@ use Rattle.round_schedule.specs.Past.{last_of}
 use Rattle.round_planner.specs.Quotas.{Planned, quota_of, quotas_of}
 use Rattle.hart_step.specs.declared.hart.Hart.{Hart}
 use Rattle.hart_step.specs.Buffered.{Overlay, seen_through}
-use Rattle.machine.specs.Machine.{Running}
 use Rattle.moments.specs.Hits.{harts_in_part, hits_from}
 use Rattle.moments.specs.Bytes.{sight_of}
 use Rattle.moments.specs.declared.asked.Asked.{Asked}
 use Rattle.past_harts.specs.declared.place.Place.{Place}
 use Rattle.past_harts.specs.Begun.{Begun}
 use Rattle.past_harts.proofs.Begun.{got}
-use Rattle.round_steps.specs.Places.{parallel_places, part_counts, part_places, past_at, serial_places, turn_at, turn_comes, turn_of, turn_places, turns_of}
+use Rattle.round_steps.specs.Places.{parallel_places, part_counts, part_places, turn_at, turn_comes, turns_of}
 
 get_or-append_seam_at : {A : Type 0} (xs : List A) (x : A) (i : ℕ) (d : A) → i ≡ length xs → get_or (xs ++ x ∷ []) i d ≡ x
 get_or-append_seam_at xs x i d e = ap (λ (k : ℕ). get_or (xs ++ x ∷ []) k d) e ∙ get_or-append_seam xs x [] d
@@ -84,21 +83,6 @@ turns_at b (suc n) i d lt = turn_by b n i d (cases_eq i n) lt (turns_at b n i d)
 
 pub turns_count : (b : Begun) (n k : ℕ) (ts : List (Option ℕ)) → ts ≡ turns_of b n → k ≡ length ts → k ≡ n
 turns_count b n k ts e f = f ∙ ap length e ∙ turns_size b n
-
--- one more turn
-pub serial_more : (a : Asked) (m : Running) (i : ℕ) (front old new : List Place) (t : Option ℕ) → old ≡ front ++ serial_places a m i → t ≡ turn_of m i → new ≡ old ++ turn_places a i (past_at m i) t →
-    new ≡ front ++ serial_places a m (i + 1)
-unfolding serial_places
-serial_more a m i front old new t eo et en =
-    en
-    ∙ ap (λ (xs : List Place). xs ++ turn_places a i (past_at m i) t) eo
-    ∙ append_assoc front (serial_places a m i) (turn_places a i (past_at m i) t)
-    ∙ ap (λ (u : Option ℕ). front ++ (serial_places a m i ++ turn_places a i (past_at m i) u)) et
-    ∙ ap (λ (n : ℕ). front ++ serial_places a m n) (sym (add-one i))
-
-pub serial_first : (a : Asked) (m : Running) (front : List Place) → front ≡ front ++ serial_places a m 0
-unfolding serial_places
-serial_first a m front = sym (append-nil front)
 
 -- one more part
 pub parallel_more : (a : Asked) (b : Begun) (i : ℕ) (h d : Hart) (old new more : List Place) → i < length b.harts → h ≡ get_or b.harts i d → old ≡ parallel_places a b i → new ≡ old ++ more → more ≡ part_places a b i (Some h) →

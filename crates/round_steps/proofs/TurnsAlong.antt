@@ -1,7 +1,6 @@
 -- The turns of a round are what the harts' pasts end with.
-use Rattle.std.proofs.Common.{◌≡◌, ℕ, zero, suc, ◌-◌, ◌==◌, ◌||◌, Bool, true, false, cond, List, [], ◌∷◌, ◌++◌, length, drop, slice_get, slice_index, is_some, Option, Some, None, refl, sym, ◌∙◌, ap, append-nil}
+use Rattle.std.proofs.Common.{◌≡◌, ℕ, zero, suc, ◌-◌, ◌==◌, ◌||◌, Bool, true, false, cond, List, [], ◌∷◌, ◌++◌, ◌<◌, length, drop, get_or, slice_get, slice_index, is_some, Option, Some, None, refl, sym, ◌∙◌, ap, append-nil, arith}
 use Rattle.std.specs.List.{list_any}
-use Rattle.std.specs.Option.{option_map_or}
 use Rattle.std.proofs.lemmas.List.Folds.{list_any-append}
 use Rattle.round_schedule.specs.declared.event.Phase.TheVariants.{Serial}
 use Rattle.round_schedule.specs.Past.{last_of}
@@ -13,11 +12,15 @@ use Rattle.hart_step.specs.Words.{words_of}
 use Rattle.moments.proofs.Past.{part_is}
 use Rattle.machine.specs.Machine.{Running}
 use Rattle.guest_turns.specs.TurnHarts.{turns_in_round}
-use Rattle.guest_turns.proofs.TurnHartsAsked.{turns_end}
+use Rattle.guest_turns.proofs.TurnHartsAsked.{turns_end, turns_size}
 use Rattle.moments.specs.Hits.{hits_from, tells}
 use Rattle.moments.specs.declared.asked.Asked.{Asked}
 use Rattle.past_harts.specs.declared.place.Place.{Place}
 use Rattle.past_harts.specs.Begun.{begun_of}
+use Rattle.past_harts.proofs.Begun.{got}
+use Rattle.round_steps.specs.TurnsNoted.{begun_in, noted, noted_in_turn}
+use Rattle.round_steps.proofs.RoundParts.{turns_at}
+use Rattle.round_steps.proofs.Turning.{all_noted}
 use Rattle.round_steps.specs.Places.{ends_stopped, part_of, past_at, places, serial_places, turn_at, turn_comes, turn_of, turn_places, turns_of}
 
 abbrev there : {X : Type 0} → X → Option X
@@ -49,14 +52,36 @@ along_is m i n h xs at_h at_i comes =
     ∙ some_is _ xs (sym (turns_end Hart ConsoleState w m.plan.budget (quotas_of m.plan) m.state i h at_h) ∙ at_i)
 
 -- what is told of a turn
-told_there : (a : Asked) (i : ℕ) (past xs : List Hart) (t : Option ℕ) → ((n : ℕ) → t ≡ Some n → drop n past ≡ xs) →
-    option_map_or (λ n. places Serial i (hits_from (tells a i) n xs)) t [] ≡ turn_places a i past t
+told_there : (a : Asked) (i : ℕ) (past xs : List Hart) (t : Option ℕ) → ((n : ℕ) → t ≡ Some n → drop n past ≡ xs) → noted_in_turn a i t xs ≡ turn_places a i past t
 told_there a i past xs None e = refl
 told_there a i past xs (Some n) e = ap (λ (hs : List Hart). places Serial i (hits_from (tells a i) n hs)) (sym (e n refl))
 
 pub turn_told : (a : Asked) (m : Running) (i : ℕ) (h : Hart) (xs : List Hart) (t : Option ℕ) → slice_get m.state.harts i ≡ Some h → slice_get (turns_along m) i ≡ Some xs → t ≡ turn_of m i →
-    option_map_or (λ n. places Serial i (hits_from (tells a i) n xs)) t [] ≡ turn_places a i (past_at m i) t
+    noted_in_turn a i t xs ≡ turn_places a i (past_at m i) t
 turn_told a m i h xs t at_h at_i e = told_there a i (past_at m i) xs t (λ n is. along_is m i n h xs at_h at_i (sym e ∙ is))
+
+-- all of them
+got_within : {A : Type 0} (xs : List A) (i : ℕ) (x : A) → slice_get xs i ≡ Some x → i < length xs
+got_within [] i x e = absurd cc
+got_within (y ∷ ys) zero x e = omega arith
+got_within (y ∷ ys) (suc i) x e = let less = got_within ys i x e in omega (arith, less)
+
+pub all_told : (a : Asked) (m : Running) (ts : List (Option ℕ)) (front new : List Place) → ts ≡ turns_of (begun_of m) (length m.state.harts) →
+    new ≡ front ++ noted a ts (turns_along m) [] → new ≡ front ++ serial_places a m (length m.state.harts)
+all_told a m ts front new e is =
+    let size : length (turns_along m) ≡ length m.state.harts = turns_size (words_of m.code) m.plan.budget (quotas_of m.plan) m.state in
+    all_noted a m ts (turns_along m) front new (length m.state.harts) size (λ i xs at. each size i xs at) is
+  where
+    d : Hart
+    d = record { x = []; pc = 0; stop = None; done = 0 }
+
+    each : length (turns_along m) ≡ length m.state.harts → (i : ℕ) (xs : List Hart) → slice_get (turns_along m) i ≡ Some xs → noted_in_turn a i (begun_in ts i) xs ≡ turn_places a i (past_at m i) (turn_of m i)
+    each size i xs at =
+        let within : i < length m.state.harts = omega (arith, size, got_within (turns_along m) i xs at) in
+        let h : Hart = get_or m.state.harts i d in
+        let comes : begun_in ts i ≡ turn_of m i = ap (λ (bs : List (Option ℕ)). begun_in bs i) e ∙ turns_at (begun_of m) (length m.state.harts) i None within in
+        turn_told a m i h xs (begun_in ts i) (got m.state.harts i h d within refl) at comes
+        ∙ ap (λ (t : Option ℕ). turn_places a i (past_at m i) t) comes
 
 -- ---- a round in which no turn comes
 

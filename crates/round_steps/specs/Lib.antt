@@ -1,4 +1,5 @@
 pub mod Places
+pub mod TurnsNoted
 pub mod Points
 pub mod Stopping
 pub mod Searching

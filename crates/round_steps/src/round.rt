@@ -43,9 +43,8 @@ pub(crate) fn places_in_round<R: Threads + Wait + Sync>(
         IfOk result (λ v. v.items ≡ round_places asked.now m) }
     ensures refused { IfErr result (λ e. e ≡ refusals.OutOfMemory) }
 {
-    let Parts { mut found, turns } = parts_in_round(machine, code, asked)?;
-    add_turns(rt, machine, &turns, asked, &mut found)?;
-    Ok(found)
+    let Parts { found, turns } = parts_in_round(machine, code, asked)?;
+    add_turns(rt, machine, &turns, asked, found)
 }
 
 /// The same of its parallel phase.

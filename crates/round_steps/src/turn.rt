@@ -1,13 +1,12 @@
-ghost use Rattle.std.specs.Prelude.{◌≡◌, ◌++◌, ◌+◌, ◌<◌, ◌^◌, ◌||◌, ◌&&◌, [], length, is_some, IfErr, OnOk};
+ghost use Rattle.std.specs.Prelude.{◌≡◌, ◌++◌, ◌+◌, ◌<◌, ◌^◌, ◌&&◌, None, length, get_or, is_some, IfOk, IfErr, OnOk};
 ghost use Rattle.std.specs.List.{list_any};
-ghost use Rattle.std.specs.Option.{option_map_or};
 ghost use Rattle.host_io.specs.declared.error.RunError.TheVariants as refusals;
-ghost use Rattle.round_schedule.specs.declared.event.Phase.TheVariants.{Serial};
 ghost use Rattle.machine.specs.Machine.{Running};
 ghost use Rattle.machine.specs.Untraced.{IsUntraced};
-ghost use Rattle.moments.specs.Hits.{hits_from, tells};
+ghost use Rattle.moments.specs.Hits.{tells};
 ghost use Rattle.past_harts.specs.Begun.{begun_of};
-ghost use Rattle.round_steps.specs.Places.{places, serial_places, turns_of};
+ghost use Rattle.round_steps.specs.Places.{serial_places, turns_of};
+ghost use Rattle.round_steps.specs.TurnsNoted.{noted, noted_at};
 
 use crate::noting::note;
 use hart_step::Hart;
@@ -15,7 +14,7 @@ use host_io::RunError;
 use machine::UntracedMachine;
 use moments::Asked;
 use pages::OutOfMemory;
-use past_harts::{Place, harts_in_turns};
+use past_harts::{Place, TurnVisitor, visit_turns};
 use round_schedule::Phase;
 use std::sync::Wait;
 use std::thread::Threads;
@@ -27,29 +26,28 @@ pub(crate) fn add_turns<R: Threads + Wait + Sync>(
     machine: &mut UntracedMachine,
     turns: &[Option<u32>],
     asked: &Asked,
-    found: &mut Vec<Place>,
-) -> Result<(), RunError>
+    found: Vec<Place>,
+) -> Result<Vec<Place>, RunError>
     requires run { (m : Running) × IsUntraced m machine.old }
     requires rounds { machine.old.rounds + 1 < 2 ^ 32 }
     requires turns { length turns.now ≡ length machine.old.harts }
     ensures stays { machine.new ≡ machine.old }
     ensures places { (m : Running) → IsUntraced m machine.old →
-        turns.now ≡ turns_of (begun_of m) (length m.state.harts) → OnOk result (found.new.items ≡
-        found.old.items ++ serial_places asked.now m (length m.state.harts)) }
+        turns.now ≡ turns_of (begun_of m) (length m.state.harts) → IfOk result (λ v. v.items ≡
+        found.items ++ serial_places asked.now m (length m.state.harts)) }
     ensures refused { IfErr result (λ e. e ≡ refusals.OutOfMemory) }
 {
     if !some_comes(turns) {
-        return Ok(());
+        return Ok(found);
     }
-    // At most 64, as many as the plan says.
-    let _harts = machine.plan().harts();
-    let _count = machine.harts();
     let copy = machine.share()?;
-    let along = harts_in_turns(rt, copy, 1)?;
-    for number in 0..turns.len() {
-        add_turn(number as u32, turns[number], &along[number], asked, found)?;
-    }
-    Ok(())
+    let mut noting = Noting {
+        asked,
+        turns,
+        found,
+    };
+    visit_turns(rt, copy, 1, &mut noting)?;
+    Ok(noting.found)
 }
 
 /// Whether one of the turns comes.
@@ -59,51 +57,73 @@ fn some_comes(turns: &[Option<u32>]) -> bool
     turns.iter().any(|turn| turn.is_some())
 }
 
-/// Adds the places of one hart's turn, where it comes, along which the hart is these.
-fn add_turn(
-    number: u32,
-    turn: Option<u32>,
-    along: &[Hart],
-    asked: &Asked,
-    found: &mut Vec<Place>,
-) -> Result<(), OutOfMemory>
-    ensures { OnOk result (found.new.items ≡ found.old.items
-        ++ option_map_or (λ n. places Serial number
-        (hits_from (tells asked.now number) n along.now)) turn []) }
-{
-    match turn {
-        Some(begun) => walk_turn(number, begun, along, asked, found),
-        None => Ok(()),
+/// Notes where something is told along the turns that it is shown.
+#[derive(Drop)]
+struct Noting<'a> {
+    asked: &'a Asked,
+    /// After how many instructions of each hart its turn comes, where it does.
+    turns: &'a [Option<u32>],
+    found: Vec<Place>,
+}
+
+impl<'a> TurnVisitor for Noting<'a> {
+    ghost knows = { λ first v turns along.
+        (v.asked.now ≡ first.asked.now) × (v.turns.now ≡ first.turns.now) ×
+        (v.found.items ≡ first.found.items ++ noted first.asked.now first.turns.now turns along) };
+
+    fn before_instruction(
+        &mut self,
+        number: u32,
+        count: u32,
+        hart: &Hart,
+    ) -> Result<(), OutOfMemory> {
+        let told = self.asked.tells(number, hart);
+        let begun = begun_in(self.turns, number);
+        note_in_turn(&mut self.found, told, begun, number, count)
+    }
+
+    fn after_turn(&mut self, number: u32, count: u32, hart: &Hart) -> Result<(), OutOfMemory> {
+        let told = tells_stopped(self.asked, number, hart);
+        let begun = begun_in(self.turns, number);
+        note_in_turn(&mut self.found, told, begun, number, count)
     }
 }
 
-/// The same of a turn that comes.
-fn walk_turn(
-    number: u32,
-    begun: u32,
-    along: &[Hart],
-    asked: &Asked,
-    found: &mut Vec<Place>,
-) -> Result<(), OutOfMemory>
-    ensures { OnOk result (found.new.items ≡ found.old.items ++
-        places Serial number (hits_from (tells asked.now number) begun along.now)) }
+/// Whether something is told of a hart, where it has stopped.
+fn tells_stopped(asked: &Asked, number: u32, hart: &Hart) -> bool
+    ensures { result ≡ (is_some hart.now.stop && tells asked.now number hart.now) }
 {
-    for passed in 0..along.len() {
-        let goes_on = passed + 1 < along.len();
-        let told = is_told(number, &along[passed], goes_on, asked);
-        let place = Place {
-            phase: Phase::Serial,
-            hart: number,
-            count: u64::from(begun) + passed as u64,
-        };
-        note(found, told, place)?;
-    }
-    Ok(())
+    hart.stop.is_some() && asked.tells(number, hart)
 }
 
-/// Whether something is told of a hart, where it goes on or has stopped.
-fn is_told(number: u32, hart: &Hart, goes_on: bool, asked: &Asked) -> bool
-    ensures { result ≡ ((goes_on || is_some hart.now.stop) && tells asked.now number hart.now) }
+/// After how many instructions of a hart its turn comes, where it does.
+fn begun_in(turns: &[Option<u32>], number: u32) -> Option<u32>
+    ensures { result ≡ get_or turns.now number None }
 {
-    (goes_on || hart.stop.is_some()) && asked.tells(number, hart)
+    match turns.get(number as usize) {
+        Some(begun) => *begun,
+        None => None,
+    }
+}
+
+/// Adds the place of a hart after so many instructions of its turn, where it is told and the turn comes.
+fn note_in_turn(
+    found: &mut Vec<Place>,
+    told: bool,
+    begun: Option<u32>,
+    number: u32,
+    count: u32,
+) -> Result<(), OutOfMemory>
+    ensures { OnOk result (found.new.items ≡
+        found.old.items ++ noted_at told number count begun) }
+{
+    let Some(begun) = begun else {
+        return Ok(());
+    };
+    let place = Place {
+        phase: Phase::Serial,
+        hart: number,
+        count: u64::from(begun) + u64::from(count),
+    };
+    note(found, told, place)
 }

@@ -1,18 +1,11 @@
-use Rattle.std.proofs.Common.{ap, ◌∙◌, arith}
-use Rattle.round_planner.specs.Quotas.{quotas_of}
-use Rattle.hart_step.specs.Words.{words_of}
-use Rattle.guest_turns.specs.TurnHarts.{turns_in_round}
-use Rattle.machine.specs.Machine.{Running}
-use Rattle.machine.specs.Untraced.{Untraced}
-use Rattle.past_harts.proofs.NextRounds.{guest_is, tied_guest}
+use Rattle.std.proofs.Common.{List, Vec, Global, ap, map}
+use Rattle.hart_step.specs.declared.hart.Hart.{Hart}
+use Rattle.past_harts.specs.declared.turn_harts.Kept.{Kept}
 use Rattle.past_harts.proofs.turn_harts.harts_in_turns.Goals as goal
 
 pub returns-clause-turns : goal.returns-clause-turns
 returns-clause-turns g c = λ m is.
-    let p = c.into_fields-guest.result in
-    c.in_ok-turns_in_round.ensures m.state.trace (tied_guest m p.guest p.plan c.args.machine.events p.rounds c.args.machine c.into_fields-guest.ensures.machine is)
-    ∙ ap (λ (x : Running). turns_in_round (words_of x.code) x.plan.budget (quotas_of x.plan) x.state) (guest_is m p.guest p.plan c.args.machine.events p.rounds c.args.machine c.into_fields-guest.ensures.machine is)
-
-pub turns_in_round-requires-clause-done : goal.turns_in_round-requires-clause-done
-turns_in_round-requires-clause-done g c = λ lifetimes within.
-    omega (arith, c.if-rounds.false, c.rounds.ensures, c.rounds.type_inv, ap (λ (u : Untraced). u.rounds) c.into_fields-guest.ensures.machine)
+    let first : Kept = record { alloc = c.allocator-alloc.result; turns = c.new.result; along = c.new-2.result } in
+    let items : Vec Hart Global → List Hart = λ xs. xs.items in
+    let known = c.in_ok-visit_turns.ensures.turns m is first (ap (map items) c.new.ensures.items, c.new-2.ensures.items) in
+    known.0

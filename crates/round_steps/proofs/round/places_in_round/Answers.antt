@@ -1,4 +1,5 @@
 use Rattle.std.proofs.Common.{◌≡◌, ℕ, ◌++◌, length, List, ap, ◌∙◌}
+use Rattle.std.proofs.lemmas.Result.{IfOk-weaker}
 use Rattle.past_harts.specs.Begun.{Begun}
 use Rattle.round_steps.specs.Places.{parallel_places, serial_places, turns_of}
 use Rattle.past_harts.specs.declared.place.Place.{Place}
@@ -20,5 +21,6 @@ returns-clause-places g c = λ m is code.
     let turns = c.in_ok-found.ensures.turns
     ∙ ap (λ (k : ℕ). turns_of (begun_by c.args.machine.now c.args.code.now) k) n
     ∙ ap (λ (b : Begun). turns_of b (length m.state.harts)) same in
-    c.in_ok-add_turns.ensures.places m is (c.deref.ensures.value ∙ turns)
-    ∙ ap (λ (ps : List Place). ps ++ serial_places c.args.asked.now m (length m.state.harts)) found
+    IfOk-weaker c.add_turns.result _ _
+    (λ v is_all. is_all ∙ ap (λ (ps : List Place). ps ++ serial_places c.args.asked.now m (length m.state.harts)) found)
+    (c.add_turns.ensures.places m is (c.deref.ensures.value ∙ turns))
