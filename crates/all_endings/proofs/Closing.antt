@@ -279,6 +279,12 @@ module _ (s : Setting) (k h i : ℕ) (start : Hart) (moves : List Move) (state :
         at = o.at;
         leads = o.leads;
         offers = o.offers;
+        next = o.does;
+        decodes = o.decodes;
+        acts = o.acts;
+        stands = o.stands;
+        stores = o.stores_it;
+        late = o.late;
         rest = o.rest;
         state = state;
         runs = o.onward;

@@ -35,11 +35,11 @@ use Rattle.execution.proofs.Owning.{own_more}
 use Rattle.execution_checker.specs.Allowed.{Allows}
 use Rattle.all_endings.specs.Endings.{opening_bytes, own_output}
 use Rattle.all_endings.specs.Factorizing.{AreMoves, Factor, Factorizes, IsOpenCall, IsUnknown, Lags, StoresLater, comes-to-call, comes-to-end, comes-to-unknown, moves-none, moves-other, moves-own, unknown-address, unknown-target, HasRoom, IsFresh}
-use Rattle.all_endings.specs.HartRuns.{Runs, runs-more, runs-none}
+use Rattle.all_endings.specs.HartRuns.{Acts, IsPlaced, Runs, Stands, runs-more, runs-none}
 use Rattle.all_endings.specs.Locality.{Refines, view}
 use Rattle.all_endings.specs.Offering.{Offers}
-use Rattle.all_endings.specs.RunStates.{Move, RunState, bare, moved, run_start, put_byte, puts_out}
-use Rattle.all_endings.specs.StoreLists.{Stored, stores_of, told}
+use Rattle.all_endings.specs.RunStates.{Move, RunState, bare, behind, moved, operates, run_start, put_byte, puts_out}
+use Rattle.all_endings.specs.StoreLists.{Stored, later, stores_of, told}
 use Rattle.all_endings.proofs.Bare.{stores_bare}
 use Rattle.all_endings.proofs.Blocking.{address_later, target_later}
 use Rattle.all_endings.proofs.DecodedRegisters.{all_registers_are}
@@ -50,8 +50,10 @@ use Rattle.all_endings.proofs.LoadMoves.{read_moves, reserve_moves}
 use Rattle.all_endings.proofs.Moves.{Blocked, MovesOrBlocks, blocked-address, blocked-call, blocked-target, registers_are}
 use Rattle.all_endings.proofs.Offers.{step_offers}
 use Rattle.all_endings.proofs.OwnSteps.{follows_own}
+use Rattle.all_endings.proofs.Placing.{placed}
 use Rattle.all_endings.proofs.PlainMoves.{branch_moves, call_moves, jump_moves, order_moves, put_moves}
 use Rattle.all_endings.proofs.Starting.{runs_start}
+use Rattle.all_endings.proofs.StepTimes.{waits}
 use Rattle.all_endings.proofs.StoreMoves.{exchange_moves, fail_moves, succeed_moves, write_moves}
 
 -- ---- a run so far
@@ -62,9 +64,15 @@ pub record Offered (s : Setting) (h : ℕ) (start : Hart) (moves : List Move) (s
   pub at : RunState
   pub leads : Runs s.image h (list s) (opening_bytes s.image) (run_start start) before at
   pub offers : Offers s.image h (list s) (opening_bytes s.image) at next
+  pub does : Move
+  pub decodes : decoded s.image at.pc ≡ Some does.instruction
+  pub acts : Acts s.image h (list s) (opening_bytes s.image) (IsPlaced h (list s)) at does
+  pub stands : operates does ≡ true → Stands at does
+  pub stores_it : stores does.access ≡ true
+  pub late : does.time ≡ later (list s)
   pub rest : List Move
-  pub onward : Runs s.image h (list s) (opening_bytes s.image) at rest state
-  pub joined : moves ≡ before ++ rest
+  pub onward : Runs s.image h (list s) (opening_bytes s.image) (moved h (list s) at does) rest state
+  pub joined : moves ≡ before ++ does ∷ rest
 
 abbrev pub Paid : List Move → ℕ → Type 0
 Paid moves k = (v : Move) × Contains moves v × (stores v.access ≡ true) × (v.time ≡ k)
@@ -122,9 +130,15 @@ offered_more s h start vs a v next more o = record {
   at = o.at;
   leads = o.leads;
   offers = o.offers;
+  does = o.does;
+  decodes = o.decodes;
+  acts = o.acts;
+  stands = o.stands;
+  stores_it = o.stores_it;
+  late = o.late;
   rest = o.rest ++ v ∷ [];
-  onward = more o.at o.rest o.onward;
-  joined = ap (λ (us : List Move). us ++ v ∷ []) o.joined ∙ append_assoc o.before o.rest (v ∷ []);
+  onward = more (moved h (list s) o.at o.does) o.rest o.onward;
+  joined = ap (λ (us : List Move). us ++ v ∷ []) o.joined ∙ append_assoc o.before (o.does ∷ o.rest) (v ∷ []);
 }
 
 so_far_other : (s : Setting) (h : ℕ) (start : Hart) (i : ℕ) (vs : List Move) (a : RunState) → (event s.t i).hart ≢ h → SoFar s h start i vs a → SoFar s h start (suc i) vs a
@@ -135,9 +149,10 @@ so_far_other s h start i vs a other f = record {
 
 so_far_own : (s : Setting) (h : ℕ) (start : Hart) (i : ℕ) (vs : List Move) (v : Move) (a : RunState) → v.access ≡ bare (event s.t i).access →
     (stores (event s.t i).access ≡ true → time s i < s.n → v.time ≡ time s i) →
-    (is_store (event s.t i) ≡ true → time s i ≡ s.n → Offers s.image h (list s) (opening_bytes s.image) a (told (event s.t i))) → More s h a v →
+    (is_store (event s.t i) ≡ true → time s i ≡ s.n → Offers s.image h (list s) (opening_bytes s.image) a (told (event s.t i))) →
+    behind (list s) v ≡ after s i → decoded s.image a.pc ≡ Some v.instruction → Acts s.image h (list s) (opening_bytes s.image) (IsPlaced h (list s)) a v → (operates v ≡ true → Stands a v) →
     Runs s.image h (list s) (opening_bytes s.image) (run_start start) vs a → SoFar s h start i vs a → SoFar s h start (suc i) (vs ++ v ∷ []) (moved h (list s) a v)
-so_far_own s h start i vs v a e listed offers more runs f = record {
+so_far_own s h start i vs v a e listed offers passed at doing stand runs f = record {
   paid = λ w l here store early. elim (cases_lt w i) [
     | inl k ↦ paid_more vs (v ∷ []) (time s w) (f.paid w k here store early)
     | inr k ↦ let same : i ≡ w = omega (arith, k, l) in subst (λ (j : ℕ). Paid (vs ++ v ∷ []) (time s j)) same (new (ap (λ (j : ℕ). is_store (event s.t j)) same ∙ store) (subst (λ (j : ℕ). time s j < s.n) (sym same) early))
@@ -149,11 +164,31 @@ so_far_own s h start i vs v a e listed offers more runs f = record {
   ];
 }
   where
+    more : More s h a v
+    more b us r = runs-more b a us v r at doing stand
+
+    wet : is_store (event s.t i) ≡ true → stores v.access ≡ true
+    wet store = ap stores e ∙ stores_bare (event s.t i).access ∙ store
+
     new : is_store (event s.t i) ≡ true → time s i < s.n → Paid (vs ++ v ∷ []) (time s i)
-    new store early = (v, contains_last vs v, ap stores e ∙ stores_bare (event s.t i).access ∙ store, listed store early)
+    new store early = (v, contains_last vs v, wet store, listed store early)
 
     offer : is_store (event s.t i) ≡ true → time s i ≡ s.n → Offered s h start (vs ++ v ∷ []) (moved h (list s) a v) (told (event s.t i))
-    offer store now = record { before = vs; at = a; leads = runs; offers = offers store now; rest = v ∷ []; onward = more a [] (runs-none a); joined = refl }
+    offer store now = record {
+      before = vs;
+      at = a;
+      leads = runs;
+      offers = offers store now;
+      does = v;
+      decodes = at;
+      acts = doing;
+      stands = stand;
+      stores_it = wet store;
+      late = waits s h i v e store passed now (placed s.image h (list s) (opening_bytes s.image) a v doing (wet store));
+      rest = [];
+      onward = runs-none (moved h (list s) a v);
+      joined = refl;
+    }
 
 known_start : (x : List ℕ) (r : ℕ) → r < length x → is_some (get_or (map (λ v. Some v) x) r None) ≡ true
 known_start [] r l = absurd (omega (arith, l))
@@ -296,8 +331,8 @@ module _ (image : Memory) (q : Standing) (g : List ℕ) (n : ℕ) (fit : (i : �
       runs = runs-more (run_start first) w.state w.moves m.move w.runs (at ∙ ap (λ (x : Instr). Some x) (sym m.instruction)) m.acts m.stands;
       are = moves-own i w.moves m.move w.are here (record { instruction = m.instruction ∙ sym inst; access = m.matches.access; time = m.matches.passed });
       follows = follows_own the h i w.state k j m.move m.matches held w.follows;
-      so_far = so_far_own the h first i w.moves m.move w.state m.matches.access m.matches.listed offers
-          (λ b vs r. runs-more b w.state vs m.move r (at ∙ ap (λ (x : Instr). Some x) (sym m.instruction)) m.acts m.stands) w.runs w.so_far;
+      so_far = so_far_own the h first i w.moves m.move w.state m.matches.access m.matches.listed offers m.matches.passed
+          (at ∙ ap (λ (x : Instr). Some x) (sym m.instruction)) m.acts m.stands w.runs w.so_far;
       output = λ total. ap (λ (o : List (Option ℕ)). o ++ puts_out w.state.registers m.move.instruction) (w.output total)
           ∙ ap (λ (y : Instr). map (λ n. Some n) out ++ puts_out w.state.registers y) m.instruction
           ∙ ap (λ (o : List (Option ℕ)). map (λ n. Some n) out ++ o) (puts_of_run instr w.state k w.follows.lags.registers (knows_all the h i held w.state k w.follows total))

@@ -18,6 +18,7 @@ pub mod Moves
 mod Offers
 mod OwnSteps
 mod Pairs
+pub mod Placing
 pub mod PlainMoves
 mod Seen
 pub mod SourceRegisters

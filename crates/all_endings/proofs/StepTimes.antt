@@ -20,9 +20,9 @@ use Rattle.rule_checker.specs.Kinds.{AllowedByKind}
 use Rattle.rule_checker.specs.declared.annotated.KindBounds.{KindBounds}
 use Rattle.rule_checker.specs.declared.carried.Carried.{Carried}
 use Rattle.all_endings.specs.Endings.{opening_bytes}
-use Rattle.all_endings.specs.HartRuns.{Gets, IsListed, IsPast, IsRead, Stands, forwarded, gets, remembered}
+use Rattle.all_endings.specs.HartRuns.{Gets, IsListed, IsPast, IsPlaced, IsRead, Stands, forwarded, gets, remembered}
 use Rattle.all_endings.specs.RunStates.{Move, OwnByte, RunState, bare, behind, operates}
-use Rattle.all_endings.specs.StoreLists.{Stored, last_place, no_store, told}
+use Rattle.all_endings.specs.StoreLists.{Stored, last_place, later, no_store, told}
 use Rattle.all_endings.specs.Times.{StandsInTime, kinds_before, touched_before}
 use Rattle.all_endings.proofs.Bare.{address_bare, bytes_bare, carried_allow_bare, covers_bare, kinds_allow_bare, stores_bare}
 use Rattle.all_endings.proofs.Following.{Follows, OwnIs, OwnLast, Setting, Source, after, after_other, after_store, carried_at_index, list, place, time, time_small}
@@ -63,6 +63,17 @@ behind_later s i v e st at l =
     let a = after_store s i st in
     let m = s.many in
     omega (arith, a, b, l, m, at)
+
+-- the store that comes next is LATER
+pub waits : (s : Setting) (h i : ℕ) (v : Move) → v.access ≡ bare (event s.t i).access → stores (event s.t i).access ≡ true → behind (list s) v ≡ after s i → time s i ≡ s.n →
+    IsPlaced h (list s) v → v.time ≡ later (list s)
+waits s h i v e st passed now (inl late) = late
+waits s h i v e st passed now (inr is) =
+    let b = behind_by (list s) v true (stores_as s i v true e st) in
+    let a = after_store s i st in
+    let m = s.many in
+    let w = is.within in
+    absurd (omega (arith, a, b, m, w, passed, now))
 
 -- ---- the bounds
 

@@ -28,6 +28,7 @@ use Rattle.all_endings.proofs.DecodedRegisters.{decoded_fits}
 use Rattle.all_endings.proofs.Factors.{Paid}
 use Rattle.all_endings.proofs.Lowering.{acts_low, lower_do_as_much, moved_low, stands_low}
 use Rattle.all_endings.proofs.Tables.{tables_whole}
+use Rattle.all_endings.proofs.Placing.{runs_behind}
 
 -- ---- lower than lower
 
@@ -136,7 +137,7 @@ module _ (k : ℕ) (image : Memory) (h : ℕ) (m : List Stored) (start : Hart) (
 
   pub offered_all : (s : Stored) → IsOffered k image h m (opening_bytes image) start s → Contains offered s
   offered_all s o =
-      let joined = length-append o.before o.rest in
+      let joined = length-append o.before (o.next ∷ o.rest) in
       let short = o.short in
       let p = from_start o.before o.at o.leads (omega (arith, joined, short)) in
       let offers = (lower_do_as_much image h m (opening_bytes image) p.0.state o.at p.2.state).1 s o.offers in
@@ -149,7 +150,8 @@ module _ (k : ℕ) (image : Memory) (h : ℕ) (m : List Stored) (start : Hart) (
               paid = λ j small paid. w.2.paid j small (p.2.paid j small paid);
               next = w.2.next;
             } in
-            let q = along o.at o.before (Some s) w.0 w.1 chosen o.rest o.state o.runs (omega (arith, joined, short)) in
+            let on = runs_behind image h m (opening_bytes image) o.at o.next o.decodes o.acts o.stands o.rest o.state o.runs in
+            let q = along o.at o.before (Some s) w.0 w.1 chosen (o.next ∷ o.rest) o.state on (omega (arith, joined, short)) in
             walked.grows q.0 s q.1 q.2.next (λ j l here. q.2.paid j l (let t = o.pays j l here in (t.0, t.1, t.2, t.3)))
       ]
 

@@ -12,9 +12,9 @@ use Rattle.execution.specs.Progressing.{at_start}
 use Rattle.execution_checker.specs.Allowed.{Allows}
 use Rattle.all_endings.specs.Endings.{opening_bytes}
 use Rattle.all_endings.specs.Factorizing.{IsOpenCall, IsFresh}
-use Rattle.all_endings.specs.HartRuns.{Acts, Runs, Stands}
-use Rattle.all_endings.specs.RunStates.{Move, RunState, run_start}
-use Rattle.all_endings.specs.StoreLists.{Stored, has_byte, no_store, stores_of}
+use Rattle.all_endings.specs.HartRuns.{Acts, IsPlaced, Runs, Stands}
+use Rattle.all_endings.specs.RunStates.{Move, RunState, moved, operates, run_start}
+use Rattle.all_endings.specs.StoreLists.{Stored, has_byte, later, no_store, stores_of}
 
 -- where a run stands, hart h may store this right behind the list: all that the store hangs on is known, and its bounds let it stand there
 pub record Offers (image : Memory) (h : ℕ) (m : List Stored) (opening : ℕ → ℕ) (a : RunState) (s : Stored) : Type 0 where
@@ -35,17 +35,23 @@ Pays h m vs =
     (k : ℕ) → k < length m → (slice_index_or m k no_store).hart ≡ h → (v : Move) × Contains vs v × (writing v.access ≡ true) × (v.time ≡ k)
 
 -- hart h, which begins as start, has a run of at most k instructions that does all its stores of the list, and on which it may store this
--- right behind the list
+-- right behind the list: it does that store LATER, and goes on
 pub record IsOffered (k : ℕ) (image : Memory) (h : ℕ) (m : List Stored) (opening : ℕ → ℕ) (start : Hart) (s : Stored) : Type 0 where
   pub before : List Move
   pub at : RunState
   pub leads : Runs image h m opening (run_start start) before at
   pub offers : Offers image h m opening at s
+  pub next : Move
+  pub decodes : decoded image at.pc ≡ Some next.instruction
+  pub acts : Acts image h m opening (IsPlaced h m) at next
+  pub stands : operates next ≡ true → Stands at next
+  pub stores : writing next.access ≡ true
+  pub late : next.time ≡ later m
   pub rest : List Move
   pub state : RunState
-  pub runs : Runs image h m opening at rest state
-  pub pays : Pays h m (before ++ rest)
-  pub short : length (before ++ rest) ≤ k
+  pub runs : Runs image h m opening (moved h m at next) rest state
+  pub pays : Pays h m (before ++ next ∷ rest)
+  pub short : length (before ++ next ∷ rest) ≤ k
 
 -- a run may still come to do each store that hart h has in the list: it did it, or touched each of its bytes before it alone (rule 1)
 abbrev pub MayPay : ℕ → List Stored → List Move → RunState → Type 0

@@ -1,43 +1,46 @@
 -- Spots that are walked cover the runs against the list of all stores.
-use Rattle.std.proofs.Common.{◌≡◌, ℕ, zero, suc, ◌+◌, ◌<◌, ◌≤◌, ◌==◌, ◌&&◌, ◌||◌, not, Bool, true, false, if◌then◌else◌, List, [], ◌∷◌, ◌++◌, length, map, drop, replicate, get_or, Contains, Option, Some, None, is_some, refl, sym, ap, ◌∙◌, subst, inl, inr, arith}
+use Rattle.std.proofs.Common.{◌≡◌, ℕ, zero, suc, ◌+◌, ◌<◌, ◌≤◌, ◌==◌, ◌&&◌, ◌||◌, not, Bool, true, false, if◌then◌else◌, List, [], ◌∷◌, ◌++◌, length, map, drop, replicate, get_or, Contains, Option, Some, None, is_some, unwrap_or, refl, sym, ap, ◌∙◌, subst, inl, inr, arith}
 use Rattle.std.proofs.lemmas.Bool.{and_parts, cases_lt, cond-false, eq-eqb, eqb-true, eqb-false, ne_eqb}
 use Rattle.std.proofs.lemmas.List.{append-nil, append_assoc, length-append, length-map}
 use Rattle.std.proofs.lemmas.List.Elements.{Contains-push_cases}
 use Rattle.pages.specs.Memory.{Memory}
+use Rattle.rv64_decode.specs.declared.instruction.Instr.{Instr}
 use Rattle.rv64_decode.specs.declared.instruction.Instr.TheVariants.{Ecall}
 use Rattle.round_schedule.specs.Accesses.{address_of, loads}
 use Rattle.round_schedule.specs.Accesses.{stores as writing}
 use Rattle.hart_step.specs.declared.hart.Hart.{Hart}
 use Rattle.hart_step.specs.declared.hart.Stop.{Stop}
 use Rattle.hart_step.specs.DecodedCode.{decoded}
-use Rattle.hart_step.specs.Effect.{Action}
+use Rattle.hart_step.specs.Effect.{Action, Conditional, Exchange, Read, Reserve, Write, action}
 use Rattle.hart_step.specs.Registers.{reg}
+use Rattle.memory_order.specs.Operations.{covers}
 use Rattle.memory_order.specs.Registers.{registers_of}
 use Rattle.memory_order.proofs.Facts.{or_left, or_right}
 use Rattle.rule_checker.specs.CarriedBounds.{AreRegisters}
 use Rattle.all_endings.specs.Endings.{opening_bytes}
 use Rattle.all_endings.specs.Factorizing.{IsOpenCall}
 use Rattle.all_endings.specs.Halting.{Halts, KnowsRegisters}
-use Rattle.all_endings.specs.HartRuns.{Acts, IsPlaced, Runs, Stands, runs-more, runs-none}
-use Rattle.all_endings.specs.Locality.{Refines, set_view, view}
+use Rattle.all_endings.specs.HartRuns.{Acts, acts, IsPlaced, Runs, Stands, runs-more, runs-none}
+use Rattle.all_endings.specs.Locality.{Refines, filled, set_view, view, without_data}
 use Rattle.all_endings.specs.Offering.{IsOffered, Offers, Pays}
 use Rattle.all_endings.specs.RunStates.{Move, RunState, answers_to, moved, operates, run_start}
-use Rattle.all_endings.specs.StoreLists.{Stored, no_store}
+use Rattle.all_endings.specs.StoreLists.{Stored, has_byte, no_store}
 use Rattle.all_endings.specs.Tables.{HartEnds}
 use Rattle.all_endings.specs.Walking.{HartEnding, IsPaid, Place, place_after}
 use Rattle.all_endings.proofs.DecodedRegisters.{decoded_fits}
 use Rattle.all_endings.proofs.Factors.{Paid}
 use Rattle.all_endings.proofs.Locality.{not_both, past_end, some_value}
 use Rattle.all_endings.proofs.Sources.{both}
+use Rattle.all_endings.proofs.Placing.{placed, runs_behind}
 use Rattle.private_bytes.specs.Ahead.{OutputTells, TellsAll, tells-more, tells-nothing}
-use Rattle.private_bytes.specs.Owners.{Touches, is_own, is_private}
-use Rattle.private_bytes.specs.PrivateMoves.{moved_privately}
-use Rattle.private_bytes.specs.PrivateWalks.{IsWalkedApart, StandsForApart, Spot, constant_after, looks_at_none, place_apart}
+use Rattle.private_bytes.specs.Owners.{KeepsToItself, Touches, by-conditional, by-exchange, by-read, by-reserve, by-write, is_own, is_private}
+use Rattle.private_bytes.specs.PrivateMoves.{ActsApart, moved_privately}
+use Rattle.private_bytes.specs.PrivateWalks.{IsLost, IsWalkedApart, LeadsOn, StandsForApart, Spot, constant_after, looks_at_none, place_apart, spot_with}
 use Rattle.private_bytes.proofs.ApartMoves.{f_all, most, same_most, shared_acts, up}
 use Rattle.private_bytes.proofs.KeptLists.{IsInOne, Keeps, are_kept, is_shared}
 use Rattle.private_bytes.proofs.Mirroring.{Mirrors, as_apart, mirrors-none, mirrors_ahead}
-use Rattle.private_bytes.proofs.OwnStores.{Fits, Kept, fits_along, fits_before, fits_paid, kept_along, placed}
-use Rattle.private_bytes.proofs.SharedLists.{found, passed, passing, those}
+use Rattle.private_bytes.proofs.OwnStores.{Fits, Kept, fits_along, fits_before, fits_paid, kept_along}
+use Rattle.private_bytes.proofs.SharedLists.{found, passed, passed_all, passing, those}
 use Rattle.private_bytes.proofs.SpotMoves.{StoreTouches, constant_known, did_private, did_shared, private_is, stands_apart, stored_touches, view_other, view_same}
 
 -- ---- runs
@@ -48,6 +51,24 @@ runs_joined image h m opening a us b _ _ r (runs-none _) = subst (λ (ws : List 
 runs_joined image h m opening a us b _ _ r (runs-more _ c vs v more at doing stand) =
     subst (λ (ws : List Move). Runs image h m opening a ws (moved h m c v)) (append_assoc us vs (v ∷ []))
     (runs-more a c (us ++ vs) v (runs_joined image h m opening a us b vs c r more) at doing stand)
+
+-- ---- the address of an action
+
+address_in : Action → ℕ
+address_in (Read rd address w signed) = address
+address_in (Write address w n) = address
+address_in (Reserve rd address w o) = address
+address_in (Conditional rd address w n o) = address
+address_in (Exchange rd address w f o) = address
+address_in _ = 0
+
+touched_at : (image : Memory) (b : Action) (plain : Bool) (address : ℕ) → Touches image b plain address → address_in b ≡ address
+unfolding address_in
+touched_at image _ _ _ (by-read rd address w signed safe) = refl
+touched_at image _ _ _ (by-write address n w safe) = refl
+touched_at image _ _ _ (by-reserve rd address w o safe) = refl
+touched_at image _ _ _ (by-conditional rd address n w o safe) = refl
+touched_at image _ _ _ (by-exchange rd address w f o safe) = refl
 
 -- ---- the start
 
@@ -161,7 +182,10 @@ module _ (owns : ℕ → ℕ → Bool) (k : ℕ) (image : Memory) (harts h : ℕ
   AllFit vs c = (x : ℕ) → Fits image h m opening x vs c
 
   module _ (vs : List Move) (c : RunState) (v : Move) (chosen : Option Stored) (few : length vs < k) (runs : Runs image h m opening (run_start start) vs c) (at : decoded image c.pc ≡ Some v.instruction)
-      (doing : Acts image h m opening (IsPlaced h m) c v) (stand : operates v ≡ true → Stands c v) (fits : AllFit (vs ++ v ∷ []) (moved h m c v)) (p : Spot) (there : Contains ps p) (r : ForRun p vs c chosen) where
+      (doing : Acts image h m opening (IsPlaced h m) c v) (stand : operates v ≡ true → Stands c v) (fits : AllFit (vs ++ v ∷ []) (moved h m c v)) (p : Spot)
+      (apart : KeepsToItself owns image harts h p.place.state) (r : ForRun p vs c chosen)
+      (goes : (u : Move) → u.access ≡ v.access → u.time ≡ t v.time → p.place.count < k → decoded image p.place.state.pc ≡ Some u.instruction →
+      ActsApart owns image h n opening (IsPlaced h n) p.place.state u → (operates u ≡ true → Stands p.place.state u) → LeadsOn owns h n ps p u) where
     fit : AreRegisters (registers_of v.instruction)
     fit = decoded_fits image c.pc v.instruction at
 
@@ -191,25 +215,53 @@ module _ (owns : ℕ → ℕ → Bool) (k : ℕ) (image : Memory) (harts h : ℕ
       | inr same ↦ or_right (p.place.paid (t j)) more (new (ap (λ (u : Move). writing u.access) same ∙ paid.2) (ap (λ (u : Move). u.time) same ∙ paid.3))
     ]
 
+    -- what the run came to isn't lost: it may still do its stores of the list, or did them
+    not_lost : (q : Place) → Mirrors owns h t q.state (moved h m c v) →
+        ((j : ℕ) → j < length m → is_shared owns (get_or m j no_store) ≡ true → Paid (vs ++ v ∷ []) j → q.paid (t j) ≡ true) → IsLost h n q → ⊥
+    not_lost q mirror paid lost =
+        let end = f_all owns image harts h m opening kept inside in
+        let w = found (is_shared owns) m (length m) lost.store (omega arith) (let l = lost.within in omega (arith, l, end)) in
+        let same : get_or n lost.store no_store ≡ get_or m w.0 no_store = ap (λ (i : ℕ). get_or n i no_store) (sym w.3) ∙ (passing (is_shared owns) m w.0 w.1 w.2).1 in
+        let here = ap (λ (y : Stored). y.hart) (sym same) ∙ lost.hart in
+        let wet = ap (λ (y : Stored). has_byte y lost.byte) (sym same) ∙ lost.has in
+        elim (fits lost.byte w.0 w.1 here wet) [
+          | inl did ↦
+              let p = and_parts (writing did.0.access) (covers did.0.access lost.byte) did.1.1 in
+              let yes = paid w.0 w.1 w.2 (did.0, did.1.0, p.0, did.2) in
+              let no : q.paid (t w.0) ≡ false = ap q.paid w.3 ∙ lost.owed in
+              cc
+          | inr may ↦
+              let a = mirror.touched lost.byte in
+              let b = up owns image harts h m opening kept inside ((moved h m c v).touched lost.byte) w.0 may in
+              let to = w.3 in
+              let late = lost.behind in
+              absurd (omega (arith, a, b, to, late))
+        ]
+
     on_shared : is_private owns h v.access ≡ false → For (vs ++ v ∷ []) (moved h m c v) chosen
     on_shared public =
-        let d = did_shared owns image harts h m opening kept inside p.place.state c v vs r.mirrors keeps_own (walked.apart p there) at fit doing public in
+        let d = did_shared owns image harts h m opening kept inside p.place.state c v vs r.mirrors keeps_own apart at fit doing public in
         let u = as_apart v (t v.time) d.result d.written d.source in
-        let q = walked.moves p u there (let i = r.count in omega (arith, i, few)) (ap (decoded image) r.mirrors.pc ∙ at) d.acts
-        (λ op. stands_apart owns image harts h m opening kept inside p.place.state c v vs r.mirrors keeps_own (walked.apart p there) at fit d.result d.written d.source (stand op)) in
         let to : place_apart owns h n p.place u ≡ place_after h n p.place u =
         ap (λ (b : Bool). if b then record p.place { state = moved_privately h n p.place.state u; count = p.place.count + 1 } else place_after h n p.place u) public in
-        let s = subst (λ (z : Place). StandsForApart n q.0 (record { place = z; constant = constant_after p.constant u })) to q.2 in (
-          q.0,
-          q.1,
-          record {
-            mirrors = mirrors_ahead owns h t q.0.place.state (moved h n p.place.state u) (moved h m c v) s.state d.leaves;
-            count = (let i = s.count in let j = r.count in let size = length-append vs (v ∷ []) in omega (arith, i, j, size));
-            paid = λ j l shared paid. s.paid (t j) (passed_small j l shared) (paid_on (writing v.access && t v.time == t j) j l shared paid (λ w e. both (writing v.access) (t v.time == t j) w (eq-eqb (t v.time) (t j) (ap t e))));
-            next = s.next ∙ r.next;
-            constant = λ e. constant_on (s.constant e);
-          },
-        )
+        let did : (j : ℕ) → j < length m → is_shared owns (get_or m j no_store) ≡ true → Paid (vs ++ v ∷ []) j → (place_after h n p.place u).paid (t j) ≡ true =
+        λ j l shared paid. paid_on (writing v.access && t v.time == t j) j l shared paid (λ w e. both (writing v.access) (t v.time == t j) w (eq-eqb (t v.time) (t j) (ap t e))) in
+        elim (goes u refl refl (let i = r.count in omega (arith, i, few)) (ap (decoded image) r.mirrors.pc ∙ at) d.acts
+        (λ op. stands_apart owns image harts h m opening kept inside p.place.state c v vs r.mirrors keeps_own apart at fit d.result d.written d.source (stand op))) [
+          | inr lost ↦ absurd (not_lost (place_after h n p.place u) d.leaves did (subst (IsLost h n) to lost))
+          | inl q ↦
+              let s = subst (λ (z : Place). StandsForApart n q.0 (record { place = z; constant = constant_after p.constant u })) to q.2 in (
+                q.0,
+                q.1,
+                record {
+                  mirrors = mirrors_ahead owns h t q.0.place.state (moved h n p.place.state u) (moved h m c v) s.state d.leaves;
+                  count = (let i = s.count in let j = r.count in let size = length-append vs (v ∷ []) in omega (arith, i, j, size));
+                  paid = λ j l shared paid. s.paid (t j) (passed_small j l shared) (did j l shared paid);
+                  next = s.next ∙ r.next;
+                  constant = λ e. constant_on (s.constant e);
+                },
+              )
+        ]
 
     not_shared : is_private owns h v.access ≡ true → (j : ℕ) → j < length m → is_shared owns (get_or m j no_store) ≡ true → writing v.access ≡ true → v.time ≡ j → false ≡ true
     not_shared private j l shared w e = elim (placed image h m opening c v doing w) [
@@ -223,23 +275,28 @@ module _ (owns : ℕ → ℕ → Bool) (k : ℕ) (image : Memory) (harts h : ℕ
 
     on_private : is_private owns h v.access ≡ true → For (vs ++ v ∷ []) (moved h m c v) chosen
     on_private private =
-        let d = did_private owns image harts h m opening kept inside p.place.state c v vs r.mirrors keeps_own (walked.apart p there) at fit doing private fits in
+        let d = did_private owns image harts h m opening kept inside p.place.state c v vs r.mirrors keeps_own apart at fit doing private fits in
         let u = as_apart v (t v.time) d.result d.written d.source in
-        let q = walked.moves p u there (let i = r.count in omega (arith, i, few)) (ap (decoded image) r.mirrors.pc ∙ at) d.acts
-        (λ op. stands_apart owns image harts h m opening kept inside p.place.state c v vs r.mirrors keeps_own (walked.apart p there) at fit d.result d.written d.source (stand op)) in
-        let to : place_apart owns h n p.place u ≡ record p.place { state = moved_privately h n p.place.state u; count = p.place.count + 1 } =
-        ap (λ (b : Bool). if b then record p.place { state = moved_privately h n p.place.state u; count = p.place.count + 1 } else place_after h n p.place u) private in
-        let s = subst (λ (z : Place). StandsForApart n q.0 (record { place = z; constant = constant_after p.constant u })) to q.2 in (
-          q.0,
-          q.1,
-          record {
-            mirrors = mirrors_ahead owns h t q.0.place.state (moved_privately h n p.place.state u) (moved h m c v) s.state d.leaves;
-            count = (let i = s.count in let j = r.count in let size = length-append vs (v ∷ []) in omega (arith, i, j, size));
-            paid = λ j l shared paid. s.paid (t j) (passed_small j l shared) (or_none (p.place.paid (t j)) (paid_on false j l shared paid (λ w e. not_shared private j l shared w e)));
-            next = s.next ∙ r.next;
-            constant = λ e. constant_on (s.constant e);
-          },
-        )
+        let after : Place = record p.place { state = moved_privately h n p.place.state u; count = p.place.count + 1 } in
+        let to : place_apart owns h n p.place u ≡ after = ap (λ (b : Bool). if b then after else place_after h n p.place u) private in
+        let did : (j : ℕ) → j < length m → is_shared owns (get_or m j no_store) ≡ true → Paid (vs ++ v ∷ []) j → p.place.paid (t j) ≡ true =
+        λ j l shared paid. or_none (p.place.paid (t j)) (paid_on false j l shared paid (λ w e. not_shared private j l shared w e)) in
+        elim (goes u refl refl (let i = r.count in omega (arith, i, few)) (ap (decoded image) r.mirrors.pc ∙ at) d.acts
+        (λ op. stands_apart owns image harts h m opening kept inside p.place.state c v vs r.mirrors keeps_own apart at fit d.result d.written d.source (stand op))) [
+          | inr lost ↦ absurd (not_lost after d.leaves did (subst (IsLost h n) to lost))
+          | inl q ↦
+              let s = subst (λ (z : Place). StandsForApart n q.0 (record { place = z; constant = constant_after p.constant u })) to q.2 in (
+                q.0,
+                q.1,
+                record {
+                  mirrors = mirrors_ahead owns h t q.0.place.state (moved_privately h n p.place.state u) (moved h m c v) s.state d.leaves;
+                  count = (let i = s.count in let j = r.count in let size = length-append vs (v ∷ []) in omega (arith, i, j, size));
+                  paid = λ j l shared paid. s.paid (t j) (passed_small j l shared) (did j l shared paid);
+                  next = s.next ∙ r.next;
+                  constant = λ e. constant_on (s.constant e);
+                },
+              )
+        ]
 
     one_more : For (vs ++ v ∷ []) (moved h m c v) chosen
     one_more = by_test (is_private owns h v.access) refl
@@ -256,7 +313,8 @@ module _ (owns : ℕ → ℕ → Bool) (k : ℕ) (image : Memory) (harts h : ℕ
       let joined = length-append us vs in
       let here : AllFit ((us ++ vs) ++ v ∷ []) (moved h m c v) = λ x. subst (λ (ws : List Move). Fits image h m opening x ws (moved h m c v)) (sym (append_assoc us vs (v ∷ []))) (fits x) in
       let q = along a us chosen before p there r vs c runs (λ x. fits_before image h m opening x (us ++ vs) c v stand (here x)) (omega (arith, short, size)) in
-      let w = one_more (us ++ vs) c v chosen (omega (arith, short, size, joined)) (runs_joined image h m opening (run_start start) us a vs c before runs) at doing stand here q.0 q.1 q.2 in
+      let w = one_more (us ++ vs) c v chosen (omega (arith, short, size, joined)) (runs_joined image h m opening (run_start start) us a vs c before runs) at doing stand here q.0 (walked.apart q.0 q.1) q.2
+      (λ u same time small at2 doing2 stand2. walked.moves q.0 u q.1 small at2 doing2 stand2) in
       (w.0, w.1, subst (λ (ws : List Move). ForRun w.0 ws (moved h m c v) chosen) (append_assoc us vs (v ∷ [])) w.2)
 
   first_for : For [] (run_start start) None
@@ -294,15 +352,25 @@ module _ (owns : ℕ → ℕ → Bool) (k : ℕ) (image : Memory) (harts h : ℕ
   -- ---- a store that is offered
 
   module _ (s : Stored) (o : IsOffered k image h m opening start s) where
-    all_fit : AllFit (o.before ++ o.rest) o.state
-    all_fit x = fits_paid image h m opening x (run_start start) (o.before ++ o.rest) o.state (runs_joined image h m opening (run_start start) o.before o.at o.rest o.state o.leads o.runs) o.pays
+    from_it : Runs image h m opening o.at (o.next ∷ o.rest) o.state
+    from_it = runs_behind image h m opening o.at o.next o.decodes o.acts o.stands o.rest o.state o.runs
+
+    all_fit : AllFit (o.before ++ o.next ∷ o.rest) o.state
+    all_fit x =
+        fits_paid image h m opening x (run_start start) (o.before ++ o.next ∷ o.rest) o.state (runs_joined image h m opening (run_start start) o.before o.at (o.next ∷ o.rest) o.state o.leads from_it) o.pays
 
     fit_before : AllFit o.before o.at
-    fit_before x = fits_along image h m opening x o.before o.at o.rest o.state o.runs (all_fit x)
+    fit_before x = fits_along image h m opening x o.before o.at (o.next ∷ o.rest) o.state from_it (all_fit x)
+
+    fit_on : AllFit ((o.before ++ o.next ∷ []) ++ o.rest) o.state
+    fit_on x = subst (λ (ws : List Move). Fits image h m opening x ws o.state) (sym (append_assoc o.before (o.next ∷ []) o.rest)) (all_fit x)
+
+    fit_behind : AllFit (o.before ++ o.next ∷ []) (moved h m o.at o.next)
+    fit_behind x = fits_along image h m opening x (o.before ++ o.next ∷ []) (moved h m o.at o.next) o.rest o.state o.runs (fit_on x)
 
     at_it : For o.before o.at None
     at_it =
-        let joined = length-append o.before o.rest in
+        let joined = length-append o.before (o.next ∷ o.rest) in
         let short = o.short in
         from_start o.before o.at o.leads fit_before (omega (arith, joined, short))
 
@@ -311,6 +379,16 @@ module _ (owns : ℕ → ℕ → Bool) (k : ℕ) (image : Memory) (harts h : ℕ
 
     touching : StoreTouches image h m opening (λ v. v.time ≡ length m) o.at o.offers.move
     touching = stored_touches image h m opening (λ v. v.time ≡ length m) o.at o.offers.move o.offers.acts o.offers.stores
+
+    -- what the hart does LATER is to the bytes of the store that it was offered
+    address_same : address_of o.next.access ≡ s.address
+    address_same =
+        let next = stored_touches image h m opening (IsPlaced h m) o.at o.next o.acts o.stores in
+        let one : o.next.instruction ≡ o.offers.move.instruction = ap (λ (i : Option Instr). unwrap_or i Ecall) (sym o.decodes ∙ o.offers.decodes) in
+        sym (touched_at image (without_data (acts o.at o.next)) next.plain (address_of o.next.access) next.touches)
+        ∙ ap (λ (i : Instr). address_in (without_data (action i (filled o.at.registers) o.at.pc))) one
+        ∙ touched_at image (without_data (acts o.at o.offers.move)) touching.plain (address_of o.offers.move.access) touching.touches
+        ∙ sym o.offers.address
 
     -- it touches no byte that is another hart's own
     pub offered_keeps : Keeps owns harts s
@@ -355,18 +433,21 @@ module _ (owns : ℕ → ℕ → Bool) (k : ℕ) (image : Memory) (harts h : ℕ
         } in
         elim (walked.offers p.0 s p.1 p.2.next public offers) [
           | inl here ↦ here
-          | inr w ↦
-              let chosen : ForRun w.0 o.before o.at (Some s) = record {
-                mirrors = mirrors_ahead owns h t w.0.place.state p.0.place.state o.at w.2.state p.2.mirrors;
-                count = (let i = w.2.count in let j = p.2.count in omega (arith, i, j));
-                paid = λ j l shared paid. w.2.paid (t j) (passed_small j l shared) (p.2.paid j l shared paid);
-                next = w.2.next;
-                constant = λ e. p.2.constant (w.2.constant e);
-              } in
-              let joined = length-append o.before o.rest in
+          | inr later_on ↦
+              let chosen : ForRun (spot_with p.0 s) o.before o.at (Some s) = record { mirrors = p.2.mirrors; count = p.2.count; paid = p.2.paid; next = refl; constant = p.2.constant } in
+              let joined = length-append o.before (o.next ∷ o.rest) in
+              let parts = length-append o.before (o.next ∷ []) in
               let short = o.short in
-              let q = along o.at o.before (Some s) o.leads w.0 w.1 chosen o.rest o.state o.runs all_fit (omega (arith, joined, short)) in
-              walked.grows q.0 s q.1 q.2.next (paid_apart q.0 (o.before ++ o.rest) o.state (Some s) q.2 o.pays)
+              let last = passed_all (is_shared owns) m 1 in
+              let next_fit = decoded_fits image o.at.pc o.next.instruction o.decodes in
+              let next_public : is_private owns h o.next.access ≡ false =
+              private_is owns image harts h m opening kept inside p.0.place.state o.at o.next o.before p.2.mirrors own_before apart o.decodes next_fit o.stores ∙ ap (is_own owns h) address_same ∙ public in
+              let first = one_more o.before o.at o.next (Some s) (omega (arith, joined, short)) o.leads o.decodes o.acts o.stands fit_behind (spot_with p.0 s) apart chosen
+              (λ u same time small at doing stand. later_on u small at doing stand (ap (is_private owns h) same ∙ next_public) (ap writing same ∙ o.stores) (time ∙ ap t o.late ∙ last)) in
+              let q = along (moved h m o.at o.next) (o.before ++ o.next ∷ []) (Some s) (runs-more (run_start start) o.at o.before o.next o.leads o.decodes o.acts o.stands) first.0 first.1 first.2
+              o.rest o.state o.runs fit_on (omega (arith, joined, parts, short)) in
+              let all = subst (λ (ws : List Move). ForRun q.0 ws o.state (Some s)) (append_assoc o.before (o.next ∷ []) o.rest) q.2 in
+              walked.grows q.0 s q.1 all.next (paid_apart q.0 (o.before ++ o.next ∷ o.rest) o.state (Some s) all o.pays)
         ]
 
   -- ---- ends

@@ -4,7 +4,6 @@ use Rattle.std.proofs.Common.{◌≡◌, ℕ, zero, suc, ◌+◌, ◌-◌, ◌<�
 use Rattle.std.proofs.lemmas.Bool.{and_parts, cases_lt}
 use Rattle.std.proofs.lemmas.List.Elements.{Contains-append_left, Contains-push, Contains-push_cases}
 use Rattle.std.proofs.lemmas.List.{append-nil, append_assoc}
-use Rattle.pages.specs.declared.access.Width.{Width}
 use Rattle.pages.specs.Memory.{Memory, byte_of, in_range}
 use Rattle.round_schedule.specs.Accesses.{address_of, bytes_of, is_sc, loads, stores, writes}
 use Rattle.hart_step.specs.declared.hart.Hart.{Hart}
@@ -12,34 +11,15 @@ use Rattle.memory_order.specs.Operations.{covers, is_amo}
 use Rattle.memory_order.specs.Registers.{registers_of}
 use Rattle.memory_order.proofs.Facts.{or_left, or_right}
 use Rattle.rule_checker.specs.CarriedBounds.{operand_bound}
-use Rattle.all_endings.specs.HartRuns.{Acts, Gets, IsListed, IsPast, IsPlaced, IsRead, Runs, Stands, branches, calls, exchanges, exchanges-unknown, fails, forwarded, gets, gets-later, jumps, orders, puts, puts-unknown, reads, remembered, reserves, runs-more, runs-none, succeeds}
-use Rattle.all_endings.specs.HartRuns.{stores as stores_it}
+use Rattle.all_endings.specs.HartRuns.{Acts, IsListed, IsPast, IsPlaced, IsRead, Runs, Stands, forwarded, remembered, runs-more, runs-none}
 use Rattle.all_endings.specs.Offering.{MayPay, Pays}
 use Rattle.all_endings.specs.RunStates.{Move, OwnByte, RunState, behind, moved, operates, run_start}
 use Rattle.all_endings.specs.StoreLists.{Stored, byte_at, has_byte, last_place, later, no_store}
+use Rattle.all_endings.proofs.Placing.{placed}
 use Rattle.all_endings.proofs.Sources.{both}
 use Rattle.private_bytes.specs.PrivateMoves.{left_by, needs_of, own_byte}
 
 -- ---- places of stores
-
-later_of : (m : List Stored) (opening : ℕ → ℕ) (a : RunState) (v : Move) (address : ℕ) → (w : Width) → (o : Option ℕ) → o ≡ None → Gets m opening a v address w o → v.time ≡ later m
-later_of m opening a v address w _ e (gets n early fits bytes) = absurd (cc)
-later_of m opening a v address w _ e (gets-later late none) = late
-
-pub placed : (image : Memory) (h : ℕ) (m : List Stored) (opening : ℕ → ℕ) (a : RunState) (v : Move) → Acts image h m opening (IsPlaced h m) a v → stores v.access ≡ true → IsPlaced h m v
-placed image h m opening a v (puts rd n k is e r x) s = absurd (let q = ap stores e in cc)
-placed image h m opening a v (puts-unknown rd n k is e r x) s = absurd (let q = ap stores e in cc)
-placed image h m opening a v (jumps rd target k is even e r x) s = absurd (let q = ap stores e in cc)
-placed image h m opening a v (branches taken target k is even e x) s = absurd (let q = ap stores e in cc)
-placed image h m opening a v (orders before after mode is e x) s = absurd (let q = ap stores e in cc)
-placed image h m opening a v (reads rd address w signed number k is safe e g r x) s = absurd (let q = ap stores e in cc)
-placed image h m opening a v (stores_it address w k is safe e d p x) s = p
-placed image h m opening a v (reserves rd address w o number k is safe e g r x) s = absurd (let q = ap stores e in cc)
-placed image h m opening a v (fails rd address w o k is safe e r x) s = absurd (let q = ap stores e in cc)
-placed image h m opening a v (succeeds rd address w o k is safe e d held reserved p unbroken r x) s = p
-placed image h m opening a v (exchanges rd address w f o number k is safe e g r d p x) s = p
-placed image h m opening a v (exchanges-unknown rd address w o k none is safe e g r d x) s = inl (later_of m opening a v address w None refl g)
-placed image h m opening a v (calls number answer ecall at nonzero answered e r x) s = absurd (let q = ap stores e in cc)
 
 -- a byte of a store is one of the list's store at its time
 listed_byte : (h : ℕ) (m : List Stored) (v : Move) → IsListed h m v → (x : ℕ) → covers v.access x ≡ has_byte (get_or m v.time no_store) x

@@ -21,13 +21,14 @@ use Rattle.all_endings.specs.StoreLists.{Stored, later, no_store}
 use Rattle.all_endings.proofs.Moves.{writes_to}
 use Rattle.all_endings.proofs.SourceRegisters.{none_known}
 use Rattle.all_endings.proofs.Times.{allowed_below, may_below}
+use Rattle.all_endings.proofs.Placing.{placed}
 use Rattle.private_bytes.specs.Owners.{KeepsToItself, Touches, by-conditional, by-exchange, by-write, is_own, is_private}
 use Rattle.private_bytes.specs.PrivateMoves.{ActsApart, moved_privately, shares, without_place}
 use Rattle.private_bytes.specs.PrivateWalks.{looks_at_none}
 use Rattle.private_bytes.proofs.ApartMoves.{apart_acts, cut_off, f, f_later, shared, shared_acts, up, unplaced}
 use Rattle.private_bytes.proofs.KeptLists.{IsInOne, are_kept, is_shared, one_doubleword, writable_one}
 use Rattle.private_bytes.proofs.Mirroring.{Mirrors, OwnMirrors, as_apart, moved_mirrors}
-use Rattle.private_bytes.proofs.OwnStores.{Fits, Kept, placed}
+use Rattle.private_bytes.proofs.OwnStores.{Fits, Kept}
 use Rattle.private_bytes.proofs.SharedLists.{passed_all, passing, skipping}
 
 -- ---- what is said of a move, whatever it reads

@@ -1,8 +1,9 @@
 -- Walks through the runs of harts against lists of those stores alone that are to nobody's own bytes.
-use Rattle.std.specs.Prelude.{◌≡◌, ℕ, ◌+◌, ◌*◌, ◌<◌, ◌≤◌, ◌==◌, ◌&&◌, ◌⊎◌, not, Bool, true, false, if◌then◌else◌, List, [], length, Contains, Some, None}
+use Rattle.std.specs.Prelude.{◌≡◌, ℕ, ◌+◌, ◌*◌, ◌<◌, ◌≤◌, ◌==◌, ◌&&◌, ◌⊎◌, not, Bool, true, false, if◌then◌else◌, List, [], length, slice_index_or, Contains, Some, None}
 use Rattle.pages.specs.declared.access.Range.{Range}
 use Rattle.pages.specs.Memory.{Memory, in_range}
 use Rattle.rv64_decode.specs.declared.instruction.Instr.TheVariants.{Ecall}
+use Rattle.round_schedule.specs.Accesses.{stores as writing}
 use Rattle.hart_step.specs.declared.hart.Hart.{Hart}
 use Rattle.hart_step.specs.DecodedCode.{decoded}
 use Rattle.hart_step.specs.Console.{ConsoleState, output_room}
@@ -12,7 +13,7 @@ use Rattle.all_endings.specs.Endings.{AllEndingsWithin, Ending, opening_bytes}
 use Rattle.all_endings.specs.HartRuns.{IsPlaced, Stands}
 use Rattle.all_endings.specs.Offering.{AreFresh, Offers}
 use Rattle.all_endings.specs.RunStates.{Move, answers_to, operates}
-use Rattle.all_endings.specs.StoreLists.{Stored}
+use Rattle.all_endings.specs.StoreLists.{Stored, has_byte, later, no_store}
 use Rattle.all_endings.specs.Walking.{EndsAt, HartEnding, IsLookedThroughBy, IsPaid, Place, first_place, place_after, place_with}
 use Rattle.private_bytes.specs.Ahead.{IsAhead}
 use Rattle.private_bytes.specs.Owners.{KeepsToItself, is_own, is_private}
@@ -56,6 +57,27 @@ pub record StandsForApart (m : List Stored) (p q : Spot) : Type 0 where
 abbrev pub IsCoveredApart : List Stored → List Spot → Spot → Type 0
 IsCoveredApart m ps q = (p : Spot) × Contains ps p × StandsForApart m p q
 
+-- hart h owes a store of the list that it can't do any more: an operation of the hart on one of its bytes stands behind it (rule 1). A run
+-- that comes to such a place is none of an execution
+pub record IsLost (h : ℕ) (m : List Stored) (p : Place) : Type 0 where
+  pub store : ℕ
+  pub within : store < length m
+  pub hart : (slice_index_or m store no_store).hart ≡ h
+  pub owed : p.paid store ≡ false
+  pub byte : ℕ
+  pub has : has_byte (slice_index_or m store no_store) byte ≡ true
+  pub behind : store < p.state.touched byte
+
+-- what a move leads to is covered, or lost
+abbrev pub LeadsOn : (ℕ → ℕ → Bool) → ℕ → List Stored → List Spot → Spot → Move → Type 0
+LeadsOn owns h m ps p v = IsCoveredApart m ps (spot_after owns h m p v) ⊎ IsLost h m (place_apart owns h m p.place v)
+
+-- what each move leads to by which hart h does a store to nobody's own bytes LATER
+abbrev pub DoesLater : (ℕ → ℕ → Bool) → ℕ → Memory → ℕ → List Stored → List Spot → Spot → Type 0
+DoesLater owns k image h m ps p =
+    (v : Move) → p.place.count < k → decoded image p.place.state.pc ≡ Some v.instruction → ActsApart owns image h m (opening_bytes image) (IsPlaced h m) p.place.state v →
+    (operates v ≡ true → Stands p.place.state v) → is_private owns h v.access ≡ false → writing v.access ≡ true → v.time ≡ later m → LeadsOn owns h m ps p v
+
 -- ---- walks
 
 -- spots of a hart's runs of at most k instructions against a list, as places are walked (`IsWalked`)
@@ -64,10 +86,11 @@ pub record IsWalkedApart (owns : ℕ → ℕ → Bool) (k : ℕ) (image : Memory
   -- what the hart does there touches no byte that is another's own
   pub apart : (p : Spot) → Contains ps p → KeepsToItself owns image harts h p.place.state
   pub moves : (p : Spot) (v : Move) → Contains ps p → p.place.count < k → decoded image p.place.state.pc ≡ Some v.instruction →
-      ActsApart owns image h m (opening_bytes image) (IsPlaced h m) p.place.state v → (operates v ≡ true → Stands p.place.state v) → IsCoveredApart m ps (spot_after owns h m p v)
-  -- of the stores that may come next those to own bytes don't matter
+      ActsApart owns image h m (opening_bytes image) (IsPlaced h m) p.place.state v → (operates v ≡ true → Stands p.place.state v) → LeadsOn owns h m ps p v
+  -- of the stores that may come next those to own bytes don't matter. One that a spot is offered may come next; or the hart does it LATER, and
+  -- it comes next if some spot behind owes nothing
   pub offers : (p : Spot) (s : Stored) → Contains ps p → p.place.next ≡ None → is_own owns h s.address ≡ false →
-      Offers image h m (opening_bytes image) p.place.state s → Contains offered s ⊎ IsCoveredApart m ps (spot_with p s)
+      Offers image h m (opening_bytes image) p.place.state s → Contains offered s ⊎ DoesLater owns k image h m ps (spot_with p s)
   pub grows : (p : Spot) (s : Stored) → Contains ps p → p.place.next ≡ Some s → IsPaid h m p.place → Contains offered s
   pub calls : (p : Spot) → Contains ps p → decoded image p.place.state.pc ≡ Some Ecall → p.constant ≡ true
   pub endings : (p : Spot) (e : HartEnding) → Contains ps p → EndsAt image h m p.place e → Contains ends e

@@ -2,13 +2,20 @@
 use Rattle.std.proofs.Common.{ℕ, ◌<◌, Bool, List, length, get_or, Contains, ap, ◌∙◌, subst, inl, inr}
 use Rattle.pages.specs.Memory.{Memory}
 use Rattle.hart_step.specs.declared.hart.Hart.{Hart}
+use Rattle.all_endings.specs.RunStates.{Move}
 use Rattle.all_endings.specs.StoreLists.{Stored}
 use Rattle.all_endings.specs.Walking.{HartEnding}
 use Rattle.hart_ends.proofs.Told.{told_by}
-use Rattle.private_bytes.specs.PrivateWalks.{HasWalkApart, IsCoveredApart, Spot, first_spot}
+use Rattle.private_bytes.specs.PrivateWalks.{HasWalkApart, IsCoveredApart, LeadsOn, Spot, first_spot, spot_after, spot_with}
 use Rattle.run_places.specs.declared.place.Place.{Place as KeptPlace}
 use Rattle.run_places.specs.Following.{IsFollowed}
 use Rattle.run_places.specs.Spots.{spot_of, spots_of}
+
+-- where more is covered, a move leads on that did
+pub leads_on : (owns : ℕ → ℕ → Bool) (h : ℕ) (m : List Stored) (ps pt : List Spot) (p : Spot) (v : Move) →
+    ((q : Spot) → IsCoveredApart m ps q → IsCoveredApart m pt q) → LeadsOn owns h m ps p v → LeadsOn owns h m pt p v
+leads_on owns h m ps pt p v covers (inl covered) = inl (covers (spot_after owns h m p v) covered)
+leads_on owns h m ps pt p v covers (inr lost) = inr lost
 
 module _ (owns : ℕ → ℕ → Bool) (k : ℕ) (image : Memory) (harts h : ℕ) (m : List Stored) where
   -- where more is offered, more ends are there and more is covered, a spot is followed that was
@@ -17,8 +24,11 @@ module _ (owns : ℕ → ℕ → Bool) (k : ℕ) (image : Memory) (harts h : ℕ
       ((q : Spot) → IsCoveredApart m ps q → IsCoveredApart m pt q) → IsFollowed owns k image harts h m p os es ps → IsFollowed owns k image harts h m p ot et pt
   followed_on p os ot es et ps pt offered ends covers f = record {
     apart = f.apart;
-    moves = λ v l at doing stand. covers _ (f.moves v l at doing stand);
-    offers = λ s none shared offer. elim (f.offers s none shared offer) [ inl here ↦ inl (offered s here) | inr there ↦ inr (covers _ there) ];
+    moves = λ v l at doing stand. leads_on owns h m ps pt p v covers (f.moves v l at doing stand);
+    offers = λ s none shared offer. elim (f.offers s none shared offer) [
+      | inl here ↦ inl (offered s here)
+      | inr there ↦ inr (λ v l at doing stand public wet late. leads_on owns h m ps pt (spot_with p s) v covers (there v l at doing stand public wet late))
+    ];
     grows = λ s next pays. offered s (f.grows s next pays);
     calls = f.calls;
     endings = λ e at. ends e (f.endings e at);

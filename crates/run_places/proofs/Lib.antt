@@ -1,6 +1,7 @@
 pub mod Behind
 pub mod Followed
 pub mod KnownBytes
+pub mod Losing
 pub mod Offers
 pub mod Paid
 pub mod Puts

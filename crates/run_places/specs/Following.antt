@@ -11,19 +11,20 @@ use Rattle.all_endings.specs.StoreLists.{Stored}
 use Rattle.all_endings.specs.Walking.{EndsAt, HartEnding, IsPaid}
 use Rattle.private_bytes.specs.Owners.{KeepsToItself, is_own}
 use Rattle.private_bytes.specs.PrivateMoves.{ActsApart}
-use Rattle.private_bytes.specs.PrivateWalks.{IsCoveredApart, Spot, spot_after, spot_with}
+use Rattle.private_bytes.specs.PrivateWalks.{DoesLater, LeadsOn, Spot, spot_with}
 
--- some spots cover what each move of a spot leads to
+-- some spots cover what each move of a spot leads to, if that isn't lost
 abbrev pub CoverMoves : (ℕ → ℕ → Bool) → ℕ → Memory → ℕ → List Stored → Spot → List Spot → Type 0
 CoverMoves owns k image h m p ps =
     (v : Move) → p.place.count < k → decoded image p.place.state.pc ≡ Some v.instruction → ActsApart owns image h m (opening_bytes image) (IsPlaced h m) p.place.state v →
-    (operates v ≡ true → Stands p.place.state v) → IsCoveredApart m ps (spot_after owns h m p v)
+    (operates v ≡ true → Stands p.place.state v) → LeadsOn owns h m ps p v
 
--- a store to nobody's own bytes that a spot is offered is among some, or a spot with it is covered
-abbrev pub CoverOffers : (ℕ → ℕ → Bool) → Memory → ℕ → List Stored → Spot → List Stored → List Spot → Type 0
-CoverOffers owns image h m p offered ps =
+-- a store to nobody's own bytes that a spot is offered is among some, or the hart does it LATER, and what that leads to is covered, if it isn't
+-- lost
+abbrev pub CoverOffers : (ℕ → ℕ → Bool) → ℕ → Memory → ℕ → List Stored → Spot → List Stored → List Spot → Type 0
+CoverOffers owns k image h m p offered ps =
     (s : Stored) → p.place.next ≡ None → is_own owns h s.address ≡ false → Offers image h m (opening_bytes image) p.place.state s →
-    Contains offered s ⊎ IsCoveredApart m ps (spot_with p s)
+    Contains offered s ⊎ DoesLater owns k image h m ps (spot_with p s)
 
 -- of a hart that owes nothing, the store that comes next is among some
 abbrev pub TellNext : ℕ → List Stored → Spot → List Stored → Type 0
@@ -41,7 +42,7 @@ KnowsCall image p = decoded image p.place.state.pc ≡ Some Ecall → p.constant
 pub record IsFollowed (owns : ℕ → ℕ → Bool) (k : ℕ) (image : Memory) (harts h : ℕ) (m : List Stored) (p : Spot) (offered : List Stored) (ends : List HartEnding) (ps : List Spot) : Type 0 where
   pub apart : KeepsToItself owns image harts h p.place.state
   pub moves : CoverMoves owns k image h m p ps
-  pub offers : CoverOffers owns image h m p offered ps
+  pub offers : CoverOffers owns k image h m p offered ps
   pub grows : TellNext h m p offered
   pub calls : KnowsCall image p
   pub endings : TellEnds image h m p ends

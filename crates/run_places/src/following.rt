@@ -1,26 +1,26 @@
 //! What follows one place.
-ghost use Rattle.std.specs.Prelude.{◌≡◌, ◌<◌, ◌^◌, ◌-◌, ℕ, Bool, List, map, Contains, IfOk, IfSome, IsSomeAnd, IsTrue, OnOk, None, false, true};
+ghost use Rattle.std.specs.Prelude.{◌≡◌, ℕ, List, map, IfOk, IfSome, IsSomeAnd, IsTrue, None, Some, false};
 ghost use Rattle.all_endings.specs.Endings.{opening_bytes};
 ghost use Rattle.all_endings.specs.Offering.{Offers};
-ghost use Rattle.all_endings.specs.RunStates.{Move};
 ghost use Rattle.all_endings.specs.StoreLists.{Stored};
 ghost use Rattle.all_endings.specs.Walking.{IsPaid};
-ghost use Rattle.hart_states.specs.States.{listed, state_of};
-ghost use Rattle.own_moves.specs.Moves.{FollowsApart};
+ghost use Rattle.hart_states.specs.States.{listed, state_of, stored_of};
 ghost use Rattle.own_moves.specs.Owned.{owns_of};
 ghost use Rattle.private_bytes.specs.Owners.{KeepsToItself, is_own};
-ghost use Rattle.private_bytes.specs.PrivateWalks.{IsCoveredApart, constant_after, spot_after};
+ghost use Rattle.private_bytes.specs.PrivateWalks.{DoesLater, spot_with};
 ghost use Rattle.hart_moves.specs.Offers.{IsOffer};
-ghost use Rattle.run_places.specs.Following.{CoverMoves, CoverOffers, TellEnds, TellNext};
-ghost use Rattle.run_places.specs.Found.{IsOutcomeOf, offer_told, end_found};
-ghost use Rattle.run_places.specs.Spots.{Grows, place_of, spot_of, spots_of};
+ghost use Rattle.run_places.specs.Following.{CoverMoves, TellEnds};
+ghost use Rattle.run_places.specs.Found.{IsOutcomeOf, end_found};
+ghost use Rattle.run_places.specs.Spots.{place_of, spot_of, spots_of};
 
 use crate::constants::{is_open_call, stays_constant};
-use crate::place::{Place, is_paid, place_behind, place_with};
+use crate::owing::owes_nothing;
+use crate::place::Place;
+use crate::reaching::places_behind;
 use all_endings::stops_are_known;
 use hart_ends::HartEnd;
 use hart_moves::{Reached, is_settled, knows_registers, offers, stop_of};
-use hart_states::{ListedStore, Successor};
+use hart_states::ListedStore;
 use own_moves::{OwnDoubleword, is_own, moves, strays_to};
 use pages::{OutOfMemory, Pages};
 use std::alloc::Global;
@@ -97,17 +97,17 @@ pub(crate) fn follow(
     if let Some(doubleword) = strays(against, place) {
         return Ok(Outcome::Unknown(Omission::Strays(doubleword)));
     }
-    let behind = moved(alloc, against, place)?;
-    let mut reached = match behind {
+    let pays = owes_nothing(against.hart, against.list, place);
+    let offer = new_offer(against, place);
+    let behind = moved(alloc, against, place, unless(pays, offer))?;
+    let reached = match behind {
         Some(places) => places,
         None => return Ok(Outcome::Unknown(Omission::AnyAnswer)),
     };
-    let pays = owes_nothing(against, place);
-    let offered = offered_by(alloc, against, place, pays, &mut reached)?;
     let end = end_of(alloc, against, place, pays)?;
     Ok(Outcome::Whole(Found {
         reached,
-        offered,
+        offered: next_if(pays, place.next, offer),
         end,
     }))
 }
@@ -127,16 +127,22 @@ fn strays(against: &Against<'_>, place: &Place) -> Option<u64>
     )
 }
 
-/// The places behind the moves of a place. None where a call may have any answer.
+/// The places behind the moves of a place, but for those that are lost; and those behind the moves that store LATER, with the store that was
+/// chosen to come next. None where a call may have any answer.
 fn moved(
     alloc: Global,
     against: &Against<'_>,
     place: &Place,
+    chosen: Option<ListedStore>,
 ) -> Result<Option<Vec<Place>>, OutOfMemory>
-    ensures { IfOk result (λ r. IfSome r (λ ps.
+    ensures moves { IfOk result (λ r. IfSome r (λ ps.
         CoverMoves (owns_of against.now.owned.now) against.now.steps
         against.now.pages.now.memory against.now.hart (listed against.now.list.now)
         (spot_of place.now) (spots_of ps.items))) }
+    ensures later { IfOk result (λ r. IfSome r (λ ps. (t : ListedStore) → chosen ≡ Some t →
+        DoesLater (owns_of against.now.owned.now) against.now.steps
+        against.now.pages.now.memory against.now.hart (listed against.now.list.now)
+        (spots_of ps.items) (spot_with (spot_of place.now) (stored_of t)))) }
 {
     if place.count >= against.steps {
         return Ok(Some(Vec::new(alloc)));
@@ -153,79 +159,45 @@ fn moved(
         Reached::AnyAnswer => Ok(None),
         Reached::Whole(successors) => {
             let constant = stays_constant(against.pages, place);
-            let behind = places_behind(alloc, place, successors, constant)?;
+            let behind = places_behind(alloc, against, place, successors, constant, chosen)?;
             Ok(Some(behind))
         }
     }
 }
 
-/// The places behind some moves of a place, and whether the number in x17 is a constant there.
-fn places_behind(
-    alloc: Global,
-    place: &Place,
-    successors: Vec<Successor>,
-    constant: bool,
-) -> Result<Vec<Place>, OutOfMemory>
-    requires { place.now.count < 2 ^ 64 - 1 }
-    ensures { IfOk result (λ ps. (owns : ℕ → ℕ → Bool) (h : ℕ) (m : List Stored) (v : Move)
-        (s : Successor) → Contains successors.items s →
-        FollowsApart owns h m (state_of place.now.state) v s →
-        (IsTrue constant → constant_after place.now.constant v ≡ true) →
-        IsCoveredApart m (spots_of ps.items) (spot_after owns h m (spot_of place.now) v)) }
+/// The store that a place is newly offered.
+fn new_offer(against: &Against<'_>, place: &Place) -> Option<ListedStore>
+    ensures { place.now.next ≡ None → (s : Stored) →
+        is_own (owns_of against.now.owned.now) against.now.hart s.address ≡ false →
+        Offers against.now.pages.now.memory against.now.hart (listed against.now.list.now)
+        (opening_bytes against.now.pages.now.memory) (state_of place.now.state) s →
+        IsOffer result s }
 {
-    let mut behind = Vec::new(alloc);
-    for successor in successors {
-        let reached = place_behind(alloc, place, successor, constant)?;
-        behind.push(reached)?;
-    }
-    Ok(behind)
-}
-
-/// Whether the hart did all its stores of the list.
-fn owes_nothing(against: &Against<'_>, place: &Place) -> bool
-    ensures { IsPaid against.now.hart (listed against.now.list.now) (place_of place.now) →
-        IsTrue result }
-{
-    for store in 0..against.list.len() {
-        if against.list[store].hart == against.hart && !is_paid(&place.paid, store) {
-            return false;
-        }
-    }
-    true
-}
-
-/// The store that may come next, where the hart owes nothing. Else the place with it is to be followed.
-fn offered_by(
-    alloc: Global,
-    against: &Against<'_>,
-    place: &Place,
-    pays: bool,
-    reached: &mut Vec<Place>,
-) -> Result<Option<ListedStore>, OutOfMemory>
-    ensures grows { OnOk result (Grows reached.old.items reached.new.items) }
-    ensures offers { IfOk result (λ o.
-        CoverOffers (owns_of against.now.owned.now) against.now.pages.now.memory
-        against.now.hart (listed against.now.list.now)
-        (spot_of place.now) (offer_told o) (spots_of reached.new.items)) }
-    ensures next { IfOk result (λ o.
-        (IsPaid against.now.hart (listed against.now.list.now) (place_of place.now) → IsTrue pays) →
-        TellNext against.now.hart (listed against.now.list.now) (spot_of place.now)
-        (offer_told o)) }
-{
-    let offer = match place.next {
-        Some(store) => return Ok(if pays { Some(store) } else { None }),
+    match place.next {
+        Some(_) => None,
         None => shared_offer(against, place),
-    };
-    let store = match offer {
-        Some(store) => store,
-        None => return Ok(None),
-    };
-    if pays {
-        return Ok(Some(store));
     }
-    let chosen = place_with(alloc, place, store)?;
-    reached.push(chosen)?;
-    Ok(None)
+}
+
+/// A store that is offered, unless the hart owes nothing: then the hart does it LATER, and is followed on.
+fn unless(pays: bool, offer: Option<ListedStore>) -> Option<ListedStore>
+    ensures { pays ≡ false → result ≡ offer }
+{
+    if pays { None } else { offer }
+}
+
+/// The store that may come next, if the hart owes nothing.
+fn next_if(pays: bool, next: Option<ListedStore>, offer: Option<ListedStore>) -> Option<ListedStore>
+    ensures offers { IsTrue pays → next ≡ None → result ≡ offer }
+    ensures next { (t : ListedStore) → IsTrue pays → next ≡ Some t → result ≡ Some t }
+{
+    if !pays {
+        return None;
+    }
+    match next {
+        Some(store) => Some(store),
+        None => offer,
+    }
 }
 
 /// The store to nobody's own bytes that may come next by the next instruction of a place.

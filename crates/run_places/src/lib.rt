@@ -7,7 +7,9 @@ mod bounds;
 mod constants;
 mod covering;
 mod following;
+mod owing;
 mod place;
+mod reaching;
 mod walking;
 
 pub use following::{Against, Omission};

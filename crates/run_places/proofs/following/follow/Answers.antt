@@ -1,11 +1,13 @@
-use Rattle.std.proofs.Common.{IfSome, Option, subst, rules}
+use Rattle.std.proofs.Common.{IfSome, ◌≡◌, Option, Some, subst, rules}
 use Rattle.std.specs.Global.{Vec}
-use Rattle.hart_states.specs.States.{listed}
+use Rattle.hart_states.specs.States.{listed, stored_of}
+use Rattle.hart_states.specs.declared.listed_store.ListedStore.{ListedStore}
 use Rattle.own_moves.specs.Owned.{owns_of}
+use Rattle.private_bytes.specs.PrivateWalks.{DoesLater, spot_with}
 use Rattle.run_places.specs.declared.place.Place.{Place}
 use Rattle.run_places.specs.Following.{CoverMoves}
 use Rattle.run_places.specs.Spots.{spot_of, spots_of}
-use Rattle.run_places.proofs.Standing.{covered_stays}
+use Rattle.run_places.proofs.Offers.{next_by, no_next, offers_by}
 use Rattle.run_places.proofs.following.follow.Goals as goal
 
 pub returns : goal.returns
@@ -17,12 +19,18 @@ returns c =
     let k = c.args.against.now.steps in
     let p = spot_of c.args.place.now in
     let places = c.in-Some-behind.places in
-    let moves = subst (λ (r : Option (Vec Place)). IfSome r (λ (ps : Vec Place). CoverMoves owns k image h m p (spots_of ps.items))) c.in-Some-behind.is c.in_ok-behind.ensures in
+    let chosen = c.unless.result in
+    let moves = subst (λ (r : Option (Vec Place)). IfSome r (λ (ps : Vec Place). CoverMoves owns k image h m p (spots_of ps.items))) c.in-Some-behind.is c.in_ok-behind.ensures.moves in
+    let later = subst (λ (r : Option (Vec Place)). IfSome r (λ (ps : Vec Place). (t : ListedStore) → chosen ≡ Some t → DoesLater owns k image h m (spots_of ps.items) (spot_with p (stored_of t))))
+    c.in-Some-behind.is c.in_ok-behind.ensures.later in
     record {
       apart = c.strays.ensures (search rules);
-      moves = λ v l at doing stand. covered_stays m places.items c.offered_by.new.reached.items _ c.in_ok-offered.ensures.grows (moves v l at doing stand);
-      offers = c.in_ok-offered.ensures.offers;
-      grows = c.in_ok-offered.ensures.next c.owes_nothing-pays.ensures;
+      moves = moves;
+      offers = λ s none shared offer.
+          let next = no_next c.args.place.now.next none in
+          offers_by owns k image h m p (spots_of places.items) c.owes_nothing-pays.result c.new_offer-offer.result chosen c.next_if.result s (c.new_offer-offer.ensures next s shared offer)
+          (λ pays. c.next_if.ensures.offers pays next) c.unless.ensures later;
+      grows = λ s next paid. next_by c.args.place.now.next c.next_if.result s next (λ t e. c.next_if.ensures.next t (c.owes_nothing-pays.ensures paid) e);
       calls = search rules;
       endings = c.in_ok-end.ensures c.owes_nothing-pays.ensures;
     }
