@@ -5,15 +5,14 @@ use Rattle.command_line.specs.declared.settings.Search.{Search}
 use Rattle.host_io.specs.declared.load_error.LoadError.{LoadError as ImageCause}
 use Rattle.hunt_commands.proofs.Refused.{told_so}
 use Rattle.hunt_commands.specs.Asked.{IsHuntRefusal, IsRefusedSo}
-use Rattle.hunt_commands.specs.declared.failure.HuntFailure.TheVariants as hunted
 use Rattle.hunter.specs.Hunts.{IsHuntReason, IsImageCause, has_bad_range}
 use Rattle.hunter.specs.declared.error.HuntError.{HuntError}
 use Rattle.hunter.specs.declared.error.HuntError.TheVariants as hunting
 use Rattle.hunter.specs.declared.settings.HuntSettings.{HuntSettings}
-use Rattle.weak_commands.specs.Failures.{failure_number}
+use Rattle.program_files.specs.Failures.{failure_number}
 use Rattle.weak_commands.specs.Saved.{IsUnsavedIn, IsUnwrittenIn}
-use Rattle.weak_commands.specs.declared.failure.FencesFailure.{FencesFailure}
-use Rattle.weak_commands.specs.declared.failure.FencesFailure.TheVariants.{Accept, Hunt, NoPlace, Unwritten}
+use Rattle.program_files.specs.declared.failure.CommandFailure.{CommandFailure}
+use Rattle.program_files.specs.declared.failure.CommandFailure.TheVariants as failures
 use Rattle.weak_hunter.specs.declared.error.WeakHuntError.{WeakHuntError}
 use Rattle.weak_hunter.specs.declared.error.WeakHuntError.TheVariants as weakly
 
@@ -21,13 +20,11 @@ pub refusal_so : (weak : Bool) (s : HuntSettings) (image : List ℕ) (failed oth
     IsHuntReason s image e ⊎ ((e ≡ hunting.Run refusals.SinkFailed) × failed) → IsHuntRefusal weak s image other (weakly.Hunt e)
 refusal_so weak s image failed other e more h = ⊎_elim (λ why. inl why) (λ sink. inr (sink.0, more sink.1)) h
 
-unwritten_number : (wasnt_given : List ℕ → Type 0) (folder : List ℕ) (f : FencesFailure) → IsUnwrittenIn wasnt_given folder f → failure_number f ≡ 21
-unwritten_number wasnt_given folder (Hunt failure) h = absurd h
-unwritten_number wasnt_given folder (Accept error) h = absurd h
-unwritten_number wasnt_given folder (NoPlace word why) h = absurd h
-unwritten_number wasnt_given folder (Unwritten path) h = refl
+unwritten_number : (wasnt_given : List ℕ → Type 0) (folder : List ℕ) (f : CommandFailure) → IsUnwrittenIn wasnt_given folder f → failure_number f ≡ 21
+unwritten_number wasnt_given folder (failures.Unwritten path) h = refl
+unwritten_number wasnt_given folder _ h = absurd h
 
-pub unsaved_number : (wasnt_given : List ℕ → Type 0) (folder : Option (List ℕ)) (f : FencesFailure) → IsUnsavedIn wasnt_given folder f →
+pub unsaved_number : (wasnt_given : List ℕ → Type 0) (folder : Option (List ℕ)) (f : CommandFailure) → IsUnsavedIn wasnt_given folder f →
     (failure_number f ≡ 20) ⊎ (failure_number f ≡ 21)
 unsaved_number wasnt_given None f h = absurd h
 unsaved_number wasnt_given (Some folder) f h = ⊎_elim (λ memory. inl (ap failure_number memory)) (λ u. inr (unwritten_number wasnt_given folder f u)) h
@@ -39,7 +36,7 @@ pub finder_told : {X : Type 0} (search : Search) (fault : Option HuntError) (s :
     ((cause : ImageCause) → fault ≡ None → IsImageCause s image cause →
     ◌≡◌ {A = Result X HuntError} (Err e) (Err (hunting.Run (refusals.Image cause)))
     ⊎ ◌≡◌ {A = Result X HuntError} (Err e) (Err (hunting.Run refusals.OutOfMemory))) →
-    IsRefusedSo search false fault s image failed (hunted.Refused (weakly.Hunt e))
+    IsRefusedSo search false fault s image failed (failures.Hunt (weakly.Hunt e))
 finder_told {X} search fault s image failed e good settings errors loads = told_so {X = X} search false fault s image failed (weakly.Hunt e) good (λ r f. hunts r (settings r f)) errors
     (λ cause f i. ⊎_elim (λ h. inl (hunts (hunting.Run (refusals.Image cause)) h)) (λ h. inr (hunts (hunting.Run refusals.OutOfMemory) h)) (loads cause f i))
   where

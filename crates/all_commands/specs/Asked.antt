@@ -7,15 +7,15 @@ use Rattle.endings_finder.specs.AllEndings.{AreKept, IsSearched}
 use Rattle.endings_finder.specs.declared.settings.EndingsSettings.{EndingsSettings}
 use Rattle.endings_table.specs.declared.table.EndingsTable.{EndingsTable}
 use Rattle.execution_file.specs.declared.file.ExecutionFile.{ExecutionFile}
-use Rattle.hunt_commands.specs.Asked.{IsCutEnd, RefusedSearch}
+use Rattle.hunt_commands.specs.Asked.{RefusedSearch}
+use Rattle.program_files.specs.Failures.{IsCutEnd}
 use Rattle.hunt_commands.specs.Settings.{HasNumbers, HasRanges}
 use Rattle.hunter.specs.Hunts.{hunt_fault}
 use Rattle.program_files.specs.Asked.{IsFileOfProgram, IsProgramOf, LacksSpurious}
 use Rattle.program_files.specs.declared.files.FileFault.{FileFault}
 use Rattle.weak_commands.specs.Asked.{IsWorldEnd}
 use Rattle.weak_commands.specs.Saved.{IsUnsavedIn}
-use Rattle.weak_commands.specs.declared.failure.FencesFailure.{FencesFailure}
-use Rattle.weak_commands.specs.declared.failure.FencesFailure.TheVariants.{Accept, Hunt, NoPlace, Unwritten}
+use Rattle.program_files.specs.declared.failure.CommandFailure.{CommandFailure}
 
 -- ---- what is searched
 
@@ -53,21 +53,18 @@ pub record AskedSearch (holds : List ℕ → List ℕ → Type 0) (begins : List
 -- ---- refusals
 
 -- why a search in what the files gave ends: memory was refused or the output failed, or the search is refused as a hunt is
-abbrev pub IsSearchEnd : AllEndings → List ℕ → Type 0 → FencesFailure → Type 0
-IsSearchEnd asked image failed (Hunt failure) = IsCutEnd failed failure ⊎ RefusedSearch asked.search 0 1 false hunt_fault image failed failure
-IsSearchEnd asked image failed (Accept error) = ⊥
-IsSearchEnd asked image failed (NoPlace word why) = ⊥
-IsSearchEnd asked image failed (Unwritten path) = ⊥
+abbrev pub IsSearchEnd : AllEndings → List ℕ → Type 0 → CommandFailure → Type 0
+IsSearchEnd asked image failed f = IsCutEnd failed f ⊎ RefusedSearch asked.search 0 1 false hunt_fault image failed f
 
 -- the search that a line asks for ends so
-pub record EndsSearch (holds : List ℕ → List ℕ → Type 0) (begins : List ℕ → ℕ → List ℕ → Type 0) (asked : AllEndings) (failed : Type 0) (f : FencesFailure) : Type 0 where
+pub record EndsSearch (holds : List ℕ → List ℕ → Type 0) (begins : List ℕ → ℕ → List ℕ → Type 0) (asked : AllEndings) (failed : Type 0) (f : CommandFailure) : Type 0 where
   pub image : List ℕ
   pub input : List ℕ
   pub given : IsProgramOf holds begins asked.search.program image input
   pub ends : IsSearchEnd asked image failed f
 
 -- why the command ends without what it was asked for
-abbrev pub EndsAll : (List ℕ → List ℕ → Type 0) → (List ℕ → ℕ → List ℕ → Type 0) → (List ℕ → FileFault → Type 0) → (List ℕ → Type 0) → AllEndings → Type 0 → FencesFailure → Type 0
+abbrev pub EndsAll : (List ℕ → List ℕ → Type 0) → (List ℕ → ℕ → List ℕ → Type 0) → (List ℕ → FileFault → Type 0) → (List ℕ → Type 0) → AllEndings → Type 0 → CommandFailure → Type 0
 EndsAll holds begins lacks wasnt_given asked failed f =
     IsWorldEnd lacks (IsFileOfProgram asked.search.program) (LacksSpurious holds begins asked.search.program) failed f
     ⊎ EndsSearch holds begins asked failed f ⊎ IsUnsavedIn wasnt_given (keep_of asked) f

@@ -4,8 +4,7 @@ ghost use Rattle.all_commands.specs.Asked.{AskedSearch, EndsAll, IsSearchEnd, Se
 ghost use Rattle.all_commands.specs.Status.{all_status};
 ghost use Rattle.endings_table.specs.Text.{table_text};
 ghost use Rattle.host_io.specs.Taken.{BeganText};
-ghost use Rattle.program_files.specs.Failures.{HasFailed, IsUnprinted};
-ghost use Rattle.weak_commands.specs.Failures.{failure_number};
+ghost use Rattle.program_files.specs.Failures.{HasFailed, IsUnprinted, failure_number};
 ghost use Rattle.weak_commands.specs.Saved.{AreSaved};
 
 use crate::searches::EndingsSearches;
@@ -15,19 +14,19 @@ use command_line::AllEndings;
 use endings_finder::{EndingsObserver, EndingsSettings, FoundEndings};
 use hunt_commands::{named_in, refused_for, settings_of, tell_decimals};
 use program_files::{
-    ExitStatus, Files, Messages, NamedBytes, Output, ProgramFiles, ProgressLine, read_program,
+    CommandFailure, ExitStatus, Files, Messages, NamedBytes, Output, ProgramFiles, ProgressLine,
+    read_program,
 };
 use std::alloc::Global;
-use weak_commands::{FencesFailure, keep};
-use weak_hunter::WeakHuntError;
+use weak_commands::keep;
 
 /// Searches for all endings of a guest program, and prints the table of those that were found, and of whether it has others. An execution
 /// of each is written to a file of a folder, where the line names one.
 ///
 /// # Errors
 ///
-/// `Hunt` where a file can't be read, for the settings, for the image, and for bytes that can't be looked at; then `Unwritten`, and `Hunt`
-/// where the output can't be written; the refusal of memory at any time.
+/// `File` where one can't be read, and `NoSpurious`; `Hunt` for the settings and for the image, and `Naming` for bytes that can't be looked at;
+/// then `Unwritten`, and `SinkFailed`; the refusal of memory at any time.
 pub fn all_command<
     F: Files,
     O: Output,
@@ -42,7 +41,7 @@ pub fn all_command<
     progress: &mut P,
     out: &mut O,
     messages: &M,
-) -> Result<ExitStatus, FencesFailure>
+) -> Result<ExitStatus, CommandFailure>
     // All that was printed is the table of the search that the line asks for, of which the status is, and the executions that it keeps were
     // written to the files of the folder that the line names.
     ensures searches { IfOk result (λ status.
@@ -82,7 +81,7 @@ fn search_given<O: Output, W: EndingsSearches, P: EndingsObserver + ProgressLine
     asked: &AllEndings<'_>,
     progress: &mut P,
     out: &mut O,
-) -> Result<FoundEndings, FencesFailure>
+) -> Result<FoundEndings, CommandFailure>
     ensures searches { IfOk result (λ f.
         (s : SetSearch W.finds asked.now files.now.image.items files.now.input.items) ×
         (O.took out.new ≡ O.took out.old ++ table_text s.table) ×
@@ -106,7 +105,7 @@ fn search_given<O: Output, W: EndingsSearches, P: EndingsObserver + ProgressLine
     match fault {
         Some(fault) => {
             let hunt = &settings.hunt;
-            Err(FencesFailure::Hunt(refused_for(alloc, &files.image, hunt, fault)))
+            Err(refused_for(alloc, &files.image, hunt, fault))
         }
         None => {
             let (image, input) = (files.image.as_slice(), files.input.as_slice());
@@ -114,7 +113,7 @@ fn search_given<O: Output, W: EndingsSearches, P: EndingsObserver + ProgressLine
             progress.end();
             match answer {
                 Ok(found) => Ok(found),
-                Err(error) => Err(FencesFailure::from(WeakHuntError::Hunt(error))),
+                Err(error) => Err(CommandFailure::from(error)),
             }
         }
     }

@@ -16,8 +16,8 @@ use Rattle.gdb_runs.specs.declared.debugged.Debugged.{Debugged}
 use Rattle.gdb_session.specs.Serving.{HasEnded, Served, Talking}
 use Rattle.gdb_talk.specs.Serving.{Refused}
 use Rattle.host_io.specs.Taken.{BeganText}
-use Rattle.past_commands.specs.Failures.{failure_number}
-use Rattle.past_commands.specs.declared.failure.PastFailure.{PastFailure}
+use Rattle.program_files.specs.Failures.{failure_number}
+use Rattle.program_files.specs.declared.failure.CommandFailure.{CommandFailure}
 use Rattle.program_files.specs.declared.exit_status.ExitStatus.{ExitStatus}
 use Rattle.program_files.specs.declared.exit_status.ExitStatus.TheVariants as statuses
 use Rattle.program_files.specs.declared.files.FileFault.{FileFault}
@@ -62,7 +62,7 @@ IsServedBy (debuggees.Execution p) status w = (status ≡ statuses.Done) × (w.t
 IsServedBy (debuggees.Refused c) status w = (status ≡ statuses.Differs) × IsToldVerdict c w × IsRefusedEach 0 w
 
 -- the debugger was told why there is nothing to look at
-pub record IsToldWhy (f : PastFailure) (status : ExitStatus) (w : Dialogue) : Type 0 where
+pub record IsToldWhy (f : CommandFailure) (status : ExitStatus) (w : Dialogue) : Type 0 where
   pub is_status : status ≡ statuses.Refused
   pub told : IsToldRefusal (failure_number f) w.told w.told_then
   pub answered : IsRefusedEach (failure_number f) w
@@ -70,4 +70,4 @@ pub record IsToldWhy (f : PastFailure) (status : ExitStatus) (w : Dialogue) : Ty
 -- it was served what the file of the path holds, or told why there is nothing to look at
 pub data IsDebugged (either : List ℕ → List ℕ → List ℕ → List ℕ → Type 0) (lacks : List ℕ → FileFault → Type 0) (path : List ℕ) (status : ExitStatus) (w : Dialogue) : Type 0 where
   Looks : (d : Debuggee) → IsDebuggee either path d → IsServedBy d status w → IsDebugged either lacks path status w
-  Is_refused : (f : PastFailure) → IsUnopened either lacks path f → IsToldWhy f status w → IsDebugged either lacks path status w
+  Is_refused : (f : CommandFailure) → IsUnopened either lacks path f → IsToldWhy f status w → IsDebugged either lacks path status w

@@ -16,13 +16,12 @@ use Rattle.host_io.specs.declared.error.RunError.TheVariants as refusals
 use Rattle.host_io.specs.declared.load_error.LoadError.{LoadError as ImageCause}
 use Rattle.host_io.specs.declared.plan_error.PlanError.{PlanError as PlanCause}
 use Rattle.machine.specs.Untraced.{IsUntraced}
-use Rattle.past_commands.specs.Failures.{IsNoExecution}
+use Rattle.execution_commands.specs.Texts.{IsNoExecution}
 use Rattle.past_commands.specs.Past.{EndsReading, HoldsPast}
-use Rattle.past_commands.specs.declared.failure.PastFailure.{PastFailure}
-use Rattle.past_commands.specs.declared.failure.PastFailure.TheVariants as failures
+use Rattle.program_files.specs.declared.failure.CommandFailure.{CommandFailure}
+use Rattle.program_files.specs.declared.failure.CommandFailure.TheVariants as failures
 use Rattle.past_commands.specs.declared.past.Past.{Past}
 use Rattle.past_commands.specs.declared.past.Past.TheVariants as pasts
-use Rattle.program_files.specs.declared.failure.RunFailure.TheVariants as runs
 use Rattle.program_files.specs.declared.files.FileFault.{FileFault}
 use Rattle.recording.specs.Recorded.{Recorded}
 use Rattle.replayer.specs.Refusals.{HasImage, HasImageCause, HasPlanCause, HasReason}
@@ -48,8 +47,8 @@ pub record IsRefusal (r : Recorded) (e : RunError) : Type 0 where
   pub plan : (cause : PlanCause) → HasImage r → HasPlanCause r cause → (e ≡ refusals.Plan cause) ⊎ (e ≡ refusals.OutOfMemory)
   pub reason : HasReason r e ⊎ ((e ≡ refusals.RoundsExhausted) × (2 ^ 32 ≤ r.rounds + 2))
 
-abbrev pub IsRefusedRun : Recorded → PastFailure → Type 0
-IsRefusedRun r f = (e : RunError) × (f ≡ failures.Run (runs.Refused e)) × IsRefusal r e
+abbrev pub IsRefusedRun : Recorded → CommandFailure → Type 0
+IsRefusedRun r f = (e : RunError) × (f ≡ failures.Refused e) × IsRefusal r e
 
 -- a recording's run is looked at
 abbrev pub IsRecordingDebuggee : Recorded → Debuggee → Type 0
@@ -70,8 +69,8 @@ abbrev pub IsTextDebuggee : List ℕ → Debuggee → Type 0
 IsTextDebuggee text d = (file : Said) × IsExecution text file × IsExecutionDebuggee file d
 
 -- or it isn't: the text is none, its guest is refused, or memory is
-abbrev pub IsRefusedText : List ℕ → PastFailure → Type 0
-IsRefusedText text f = IsNoExecution text f ⊎ ((file : Said) × IsExecution text file × ((e : RunError) × (f ≡ failures.Run (runs.Refused e))))
+abbrev pub IsRefusedText : List ℕ → CommandFailure → Type 0
+IsRefusedText text f = IsNoExecution text f ⊎ ((file : Said) × IsExecution text file × ((e : RunError) × (f ≡ failures.Refused e)))
 
 -- ---- what can be served
 
@@ -87,7 +86,7 @@ abbrev pub IsDebuggeeOf : Past → Debuggee → Type 0
 IsDebuggeeOf (pasts.Recording r) d = IsRecordingDebuggee r d
 IsDebuggeeOf (pasts.Execution text) d = IsTextDebuggee text.items d
 
-abbrev pub IsRefusedPast : Past → PastFailure → Type 0
+abbrev pub IsRefusedPast : Past → CommandFailure → Type 0
 IsRefusedPast (pasts.Recording r) f = IsRefusedRun r f
 IsRefusedPast (pasts.Execution text) f = IsRefusedText text.items f
 
@@ -98,5 +97,5 @@ pub record IsDebuggee (either : List ℕ → List ℕ → List ℕ → List ℕ 
   pub is : IsDebuggeeOf past d
 
 -- why there is nothing to look at: the file can't be read, it holds neither a recording nor an execution, or what it holds is refused
-abbrev pub IsUnopened : (List ℕ → List ℕ → List ℕ → List ℕ → Type 0) → (List ℕ → FileFault → Type 0) → List ℕ → PastFailure → Type 0
+abbrev pub IsUnopened : (List ℕ → List ℕ → List ℕ → List ℕ → Type 0) → (List ℕ → FileFault → Type 0) → List ℕ → CommandFailure → Type 0
 IsUnopened either lacks path f = EndsReading either lacks path f ⊎ ((past : Past) × HoldsPast either path past × IsRefusedPast past f)

@@ -2,11 +2,13 @@
 ghost use Rattle.std.specs.Prelude.{IfErr, IfOk};
 ghost use Rattle.debug_commands.specs.Debuggees.{IsDebuggee, IsDebuggeeOf, IsRefusal, IsRefusedPast, IsRefusedText, IsRunOf, IsTextDebuggee, IsUnopened};
 
+use execution_commands::read_execution_text;
 use execution_scripts::Checked;
 use execution_session::Opened;
 use gdb_runs::Debugged;
 use host_io::RunError;
-use past_commands::{Past, PastFailure, PastFiles, execution_of, read_past};
+use past_commands::{Past, PastFiles, read_past};
+use program_files::CommandFailure;
 use recording::Recording;
 use replayer::settings_of;
 use std::alloc::Global;
@@ -26,14 +28,14 @@ pub(crate) enum Debuggee {
 ///
 /// # Errors
 ///
-/// `Run` where the file can't be read; `Unread` where it begins as neither, or is no recording; `NoExecution` where it is no execution. Then
-/// `Run` for what refuses the run: its image, its plan, and more rounds than can be looked at; or for what refuses the execution's guest. And
-/// `Run` for want of memory.
+/// `File` where it can't be read; `Unread` where it begins as neither, or is no recording; `NoExecution` where it is no execution. Then what
+/// refuses the run: its image, its plan, and more rounds than can be looked at; or what refuses the execution's guest. And the refusal of
+/// memory.
 pub(crate) fn opened<F: PastFiles>(
     files: &F,
     alloc: Global,
     path: &str,
-) -> Result<Debuggee, PastFailure>
+) -> Result<Debuggee, CommandFailure>
     ensures opens { IfOk result (IsDebuggee (F.either files.now) path.now) }
     ensures errors { IfErr result (IsUnopened (F.either files.now) (F.lacks files.now) path.now) }
 {
@@ -42,7 +44,7 @@ pub(crate) fn opened<F: PastFiles>(
 }
 
 /// The run of a recording, or the execution that a text says.
-fn opened_past(alloc: Global, past: &Past) -> Result<Debuggee, PastFailure>
+fn opened_past(alloc: Global, past: &Past) -> Result<Debuggee, CommandFailure>
     ensures opens { IfOk result (IsDebuggeeOf past.now) }
     ensures errors { IfErr result (IsRefusedPast past.now) }
 {
@@ -62,11 +64,11 @@ fn opened_run(alloc: Global, recording: &Recording) -> Result<Debugged, RunError
 }
 
 /// The execution that a text says, or what was found against it.
-fn opened_execution(alloc: Global, text: &[u8]) -> Result<Debuggee, PastFailure>
+fn opened_execution(alloc: Global, text: &[u8]) -> Result<Debuggee, CommandFailure>
     ensures opens { IfOk result (IsTextDebuggee text.now) }
     ensures errors { IfErr result (IsRefusedText text.now) }
 {
-    let file = execution_of(alloc, text)?;
+    let file = read_execution_text(alloc, text)?;
     match execution_session::open(alloc, &file)? {
         Opened::Past(past) => Ok(Debuggee::Execution(past)),
         Opened::Refused(checked) => Ok(Debuggee::Refused(checked)),

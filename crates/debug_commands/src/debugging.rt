@@ -1,7 +1,7 @@
 ghost use Rattle.std.specs.Prelude.{◌≡◌, IfOk};
 ghost use Rattle.debug_commands.specs.Debuggees.{IsGood};
 ghost use Rattle.debug_commands.specs.Debugged.{IsDebugged, IsServedBy, IsToldRefusal, error_line};
-ghost use Rattle.past_commands.specs.Failures.{failure_number};
+ghost use Rattle.program_files.specs.Failures.{failure_number};
 
 use crate::debuggee::{Debuggee, opened};
 use command_line::Gdb;
@@ -10,8 +10,8 @@ use gdb_session::serve;
 use gdb_talk::refuse_each;
 use host_io::{NumberedRefusal, RunError, Sink, Source, put_all};
 use pages::OutOfMemory;
-use past_commands::{PastFailure, PastFiles};
-use program_files::ExitStatus;
+use past_commands::PastFiles;
+use program_files::{CommandFailure, ExitStatus};
 use report_lines::Line;
 use std::alloc::Global;
 use std::sync::Wait;
@@ -98,14 +98,14 @@ fn serve_debuggee<S: Source, K: Sink, E: Sink, R: Threads + Wait + Sync>(
 }
 
 /// Tells why there is nothing to look at. It is no failure where that can't be written, or there is no memory for it.
-fn tell<E: Sink>(alloc: Global, failure: &PastFailure, errors: &mut E)
+fn tell<E: Sink>(alloc: Global, failure: &CommandFailure, errors: &mut E)
     ensures { IsToldRefusal (failure_number failure.now) (E.took errors.old) (E.took errors.new) }
 {
     let _untold = put_why(alloc, failure, errors);
 }
 
 /// Writes the line of a refusal, and its words below that.
-fn put_why<E: Sink>(alloc: Global, failure: &PastFailure, errors: &mut E) -> Result<(), RunError>
+fn put_why<E: Sink>(alloc: Global, failure: &CommandFailure, errors: &mut E) -> Result<(), RunError>
     ensures { IsToldRefusal (failure_number failure.now) (E.took errors.old) (E.took errors.new) }
 {
     let line = error_line(alloc, failure.number())?;

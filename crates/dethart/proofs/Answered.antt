@@ -19,10 +19,11 @@ pub finished : {E : Type 0} (r : Result ExitStatus E) (IsDone : ExitStatus → T
 finished (Ok s) IsDone status done refused h = inl (subst IsDone (sym done) h)
 finished (Err e) IsDone status done refused h = inr refused
 
--- of what was done, so much is promised of the command's status
-pub status_by : {Done : Type 0} (f : FileRelations) (command other : Command) (status : ExitStatus) → command ≡ other → (Done → IsDoneBy f other status) → Done ⊎ (status ≡ Refused) →
-    OrRefused (IsDoneBy f command) status
-status_by f command other status is more h = ⊎_elim (λ done. inl (subst (λ (c : Command). IsDoneBy f c status) (sym is) (more done))) (λ refused. inr refused) h
+-- by what a command promises of its status, it was done
+pub done_by : {E : Type 0} (f : FileRelations) (command other : Command) (r : Result ExitStatus E) (P : ExitStatus → Type 0) → command ≡ other →
+    ((s : ExitStatus) → P s → IsDoneBy f other s) → IfOk r P → IfOk r (IsDoneBy f command)
+done_by f command other (Ok s) P is more h = subst (λ (c : Command). IsDoneBy f c s) (sym is) (more s h)
+done_by f command other (Err e) P is more h = tt
 
 -- a line that comes to no command is bad, or refused
 pub bad_or_refused : (f : Failure) → (status_of f ≡ BadLine) ⊎ (status_of f ≡ Refused)

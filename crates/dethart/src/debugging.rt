@@ -1,14 +1,12 @@
 //! The command that serves a debugger.
-ghost use Rattle.std.specs.Prelude.{◌≡◌, ◌⊎◌};
+ghost use Rattle.std.specs.Prelude.{IfOk};
 ghost use Rattle.debug_commands.specs.Debugged.{Dialogue, IsDebugged};
-ghost use Rattle.dethart.specs.Answers.{OrRefused};
 
-use crate::refusal::finish;
 use command_line::Gdb;
 use debug_commands::debug_command;
 use host_io::{ReadSource, WriteSink};
 use past_commands::PastFiles;
-use program_files::ExitStatus;
+use program_files::{CommandFailure, ExitStatus};
 use std::io;
 use std::sync::Wait;
 use std::thread::Threads;
@@ -19,15 +17,14 @@ pub(crate) fn serve_debugger<F: PastFiles, R: Threads + Wait + Sync>(
     threads: &R,
     files: &F,
     asked: &Gdb<'_>,
-) -> ExitStatus
-    ensures { OrRefused (λ status. (w : Dialogue) ×
-        IsDebugged (F.either files.now) (F.lacks files.now) asked.now.recording.now status w)
-        result }
+) -> Result<ExitStatus, CommandFailure>
+    ensures { IfOk result (λ status. (w : Dialogue) ×
+        IsDebugged (F.either files.now) (F.lacks files.now) asked.now.recording.now status w) }
 {
     let mut requests = ReadSource::new(rt.reader());
     let mut replies = WriteSink::new(io::writer(rt));
     let mut errors = WriteSink::new(rt.stderr());
-    let served = debug_command(
+    Ok(debug_command(
         threads,
         rt.alloc(),
         files,
@@ -35,6 +32,5 @@ pub(crate) fn serve_debugger<F: PastFiles, R: Threads + Wait + Sync>(
         &mut requests,
         &mut replies,
         &mut errors,
-    );
-    finish(rt, served)
+    )?)
 }

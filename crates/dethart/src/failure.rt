@@ -5,7 +5,7 @@ ghost use Rattle.dethart.specs.declared.failure.Failure.TheVariants as failures;
 
 use crate::refusal::tell;
 use host_io::RunError;
-use program_files::ExitStatus;
+use program_files::{CommandFailure, ExitStatus};
 use std::alloc::{AllocError, AllocFailed};
 use std::io;
 
@@ -54,7 +54,7 @@ impl Failure {
         match self {
             Failure::Line(error) => error.print(rt),
             Failure::NotText => rt.eprintln("error: an argument isn't UTF-8"),
-            Failure::Refused(error) => tell(rt, error),
+            Failure::Refused(error) => tell(rt, &CommandFailure::Refused(*error)),
             Failure::ReaderGone => Ok(()),
         }
     }

@@ -1,17 +1,15 @@
 -- The execution that `check` looks at, and why it ends without a verdict. `holds` says what files hold, `lacks` that one couldn't be read
 -- for a fault, and `failed` that the output failed.
 use Rattle.std.specs.Prelude.{◌≡◌, ◌⊎◌, List, None, ℕ}
-use Rattle.execution_commands.specs.Texts.{IsRefusedIn}
-use Rattle.execution_commands.specs.declared.failure.ExecutionFailure.{ExecutionFailure}
-use Rattle.execution_commands.specs.declared.failure.ExecutionFailure.TheVariants.{NoExecution, Run}
+use Rattle.execution_commands.specs.Texts.{IsNoExecution}
+use Rattle.program_files.specs.declared.failure.CommandFailure.{CommandFailure}
 use Rattle.execution_file.specs.Grammar.{IsExecution}
 use Rattle.execution_file.specs.Recorded.{Recorded}
 use Rattle.execution_scripts.specs.Findings.{IsFound, guest_in}
 use Rattle.execution_scripts.specs.declared.checking.Checked.{Checked}
 use Rattle.host_io.specs.declared.error.RunError.{RunError}
 use Rattle.program_files.specs.Failures.{IsCutOff, IsFileFailure}
-use Rattle.program_files.specs.declared.failure.RunFailure.{RunFailure}
-use Rattle.program_files.specs.declared.failure.RunFailure.TheVariants as runs
+use Rattle.program_files.specs.declared.failure.CommandFailure.TheVariants.{Refused}
 use Rattle.program_files.specs.declared.files.FileFault.{FileFault}
 
 -- the execution that a text says, and what is found of it
@@ -32,11 +30,11 @@ abbrev pub checked_in : {holds : List ℕ → List ℕ → Type 0} {path : List 
 checked_in a = a.made.checked
 
 -- the text is an execution, and it isn't checked for this error: its guest is refused, or memory
-pub record IsUnchecked (text : List ℕ) (failure : RunFailure) : Type 0 where
+pub record IsUnchecked (text : List ℕ) (failure : CommandFailure) : Type 0 where
   pub execution : Recorded
   pub says : IsExecution text execution
   pub error : RunError
-  pub is_error : failure ≡ runs.Refused error
+  pub is_error : failure ≡ Refused error
 
 -- the file of the path held a text of which this is so
 pub record Held (holds : List ℕ → List ℕ → Type 0) (path : List ℕ) (P : List ℕ → Type 0) : Type 0 where
@@ -45,10 +43,10 @@ pub record Held (holds : List ℕ → List ℕ → Type 0) (path : List ℕ) (P 
   pub so : P text
 
 -- why a file isn't checked: it couldn't be read, its text is no execution, its guest is refused, or memory is
-abbrev pub IsUncheckedFile : (List ℕ → List ℕ → Type 0) → (List ℕ → FileFault → Type 0) → List ℕ → ExecutionFailure → Type 0
-IsUncheckedFile holds lacks path (Run failure) = IsFileFailure lacks (λ named. named ≡ path) ⊥ failure ⊎ Held holds path (λ text. IsUnchecked text failure)
-IsUncheckedFile holds lacks path (NoExecution cause line) = Held holds path (λ text. IsRefusedIn text cause line)
+abbrev pub IsUncheckedFile : (List ℕ → List ℕ → Type 0) → (List ℕ → FileFault → Type 0) → List ℕ → CommandFailure → Type 0
+IsUncheckedFile holds lacks path failure =
+    IsFileFailure lacks (λ named. named ≡ path) ⊥ failure ⊎ Held holds path (λ text. IsNoExecution text failure ⊎ IsUnchecked text failure)
 
 -- why the command ends without a verdict: the file isn't checked, memory is refused, or the output failed
-abbrev pub EndsCheck : (List ℕ → List ℕ → Type 0) → (List ℕ → FileFault → Type 0) → List ℕ → Type 0 → ExecutionFailure → Type 0
-EndsCheck holds lacks path failed f = IsUncheckedFile holds lacks path f ⊎ ((error : RunError) × (f ≡ Run (runs.Refused error)) × IsCutOff failed error)
+abbrev pub EndsCheck : (List ℕ → List ℕ → Type 0) → (List ℕ → FileFault → Type 0) → List ℕ → Type 0 → CommandFailure → Type 0
+EndsCheck holds lacks path failed f = IsUncheckedFile holds lacks path f ⊎ ((error : RunError) × (f ≡ Refused error) × IsCutOff failed error)

@@ -1,4 +1,3 @@
 pub mod Texts
-pub mod Failures
 pub mod Verdicts
 pub mod Checks

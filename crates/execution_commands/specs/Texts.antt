@@ -1,13 +1,12 @@
 -- Texts that are executions, and those that are none.
 use Rattle.std.specs.Prelude.{◌≡◌, ◌+◌, ◌-◌, ◌==◌, Bool, Err, List, [], ◌∷◌, codes, if◌then◌else◌, length, nat_eq, take, ℕ}
 use Rattle.std.specs.List.{starts_with}
-use Rattle.execution_commands.specs.declared.failure.ExecutionFailure.{ExecutionFailure}
-use Rattle.execution_commands.specs.declared.failure.ExecutionFailure.TheVariants.{NoExecution, Run}
+use Rattle.program_files.specs.declared.failure.CommandFailure.{CommandFailure}
+use Rattle.program_files.specs.declared.failure.CommandFailure.TheVariants as failures
 use Rattle.execution_file.specs.Grammar.{reading}
 use Rattle.execution_file.specs.declared.cause.Refusal.{Refusal}
 use Rattle.execution_file.specs.declared.cause.Cause.{Cause}
 use Rattle.host_io.specs.declared.error.RunError.TheVariants as refusals
-use Rattle.program_files.specs.declared.failure.RunFailure.TheVariants as runs
 
 -- the text begins as an execution
 abbrev pub is_execution : List ℕ → Bool
@@ -26,6 +25,7 @@ pub record IsRefusedIn (text : List ℕ) (cause : Cause) (line : ℕ) : Type 0 w
   pub is_line : line ≡ line_ends (take (length text - refusal.left) text) + 1
 
 -- why no execution is read from a text: memory is refused, or the text
-abbrev pub IsNoExecution : List ℕ → ExecutionFailure → Type 0
-IsNoExecution text (Run failure) = failure ≡ runs.Refused refusals.OutOfMemory
-IsNoExecution text (NoExecution cause line) = IsRefusedIn text cause line
+abbrev pub IsNoExecution : List ℕ → CommandFailure → Type 0
+IsNoExecution text (failures.Refused error) = error ≡ refusals.OutOfMemory
+IsNoExecution text (failures.NoExecution cause line) = IsRefusedIn text cause line
+IsNoExecution text _ = ⊥

@@ -4,27 +4,26 @@ ghost use Rattle.execution_commands.specs.Verdicts.{IsVerdictText, verdict_statu
 ghost use Rattle.host_io.specs.Taken.{BeganText};
 ghost use Rattle.program_files.specs.Failures.{HasFailed, IsCutOff};
 
-use crate::failure::ExecutionFailure;
 use crate::reading::read_execution_text;
 use crate::verdicts::put_verdict;
 use command_line::Check;
 use execution_scripts::{Checked, check_file};
 use host_io::RunError;
-use program_files::{ExitStatus, Files, Output, read_file};
+use program_files::{CommandFailure, ExitStatus, Files, Output, read_file};
 use std::alloc::Global;
 
 /// Checks the execution of a file, and prints whether RVWMO allows it.
 ///
 /// # Errors
 ///
-/// `Run` where the file can't be read; `NoExecution` where it has no execution; then `Run` where the guest of this is refused, for its harts
-/// and pages and then for its image; the refusal of memory at any time; and `Run` at last where the output can't be written.
+/// `File` where it can't be read; `NoExecution` where it has no execution; then `Refused` where the guest of this is, for its harts and pages
+/// and then for its image; the refusal of memory at any time; and `SinkFailed` at last.
 pub fn check_command<F: Files, O: Output>(
     alloc: Global,
     files: &F,
     asked: &Check<'_>,
     out: &mut O,
-) -> Result<ExitStatus, ExecutionFailure>
+) -> Result<ExitStatus, CommandFailure>
     // All that was printed is what is found of the execution in the file of the line, and the status is 0 where RVWMO allows it, and else 3.
     ensures checks { IfOk result (λ status.
         (a : CheckedFile (F.holds files.now) asked.now.file.now) × (text : List ℕ) ×
@@ -66,7 +65,7 @@ fn print_verdict<O: Output>(
 }
 
 /// Checks the execution of the file of a path.
-fn checked_file<F: Files>(files: &F, alloc: Global, path: &str) -> Result<Checked, ExecutionFailure>
+fn checked_file<F: Files>(files: &F, alloc: Global, path: &str) -> Result<Checked, CommandFailure>
     ensures checks { IfOk result (λ c. (a : CheckedFile (F.holds files.now) path.now) ×
         (c ≡ checked_in a)) }
     ensures errors { IfErr result (IsUncheckedFile (F.holds files.now) (F.lacks files.now)

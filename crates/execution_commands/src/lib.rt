@@ -2,11 +2,9 @@
 #![tactic(auto)]
 
 mod checking;
-mod failure;
 mod reading;
 mod verdicts;
 
 pub use checking::check_command;
-pub use failure::ExecutionFailure;
 pub use reading::{is_execution, read_execution_text};
 pub use verdicts::{is_allowed, put_verdict, verdict_status, verdict_text};

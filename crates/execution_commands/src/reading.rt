@@ -4,9 +4,9 @@ ghost use Rattle.execution_commands.specs.Texts.{IsNoExecution, is_execution, li
 ghost use Rattle.execution_file.specs.Grammar.{IsExecution};
 ghost use Rattle.execution_file.specs.Views.{as_recorded};
 
-use crate::failure::ExecutionFailure;
 use execution_scripts::{ExecutionFile, ReadError, read_execution};
 use host_io::RunError;
+use program_files::CommandFailure;
 use std::alloc::Global;
 
 /// The bytes that an execution begins with.
@@ -24,14 +24,14 @@ pub fn is_execution(text: &[u8]) -> bool
 /// # Errors
 ///
 /// `NoExecution`, with the line in which the text is refused, and the refusal of memory.
-pub fn read_execution_text(alloc: Global, text: &[u8]) -> Result<ExecutionFile, ExecutionFailure>
+pub fn read_execution_text(alloc: Global, text: &[u8]) -> Result<ExecutionFile, CommandFailure>
     ensures reads { IfOk result (λ file. IsExecution text.now (as_recorded file)) }
     ensures errors { IfErr result (IsNoExecution text.now) }
 {
     match read_execution(alloc, text) {
         Ok(file) => Ok(file),
-        Err(ReadError::OutOfMemory) => Err(ExecutionFailure::from(RunError::OutOfMemory)),
-        Err(ReadError::Refused(refusal)) => Err(ExecutionFailure::NoExecution(
+        Err(ReadError::OutOfMemory) => Err(CommandFailure::from(RunError::OutOfMemory)),
+        Err(ReadError::Refused(refusal)) => Err(CommandFailure::NoExecution(
             refusal.cause,
             line_at(text, refusal.left),
         )),

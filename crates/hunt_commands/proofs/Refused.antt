@@ -5,8 +5,8 @@ use Rattle.host_io.specs.declared.error.RunError.TheVariants as refusals
 use Rattle.host_io.specs.declared.load_error.LoadError.{LoadError as ImageCause}
 use Rattle.hunt_commands.specs.Asked.{IsFaultReason, IsGuestReason, IsHuntRefusal, IsReason, IsReasonOf, IsRefusedSo}
 use Rattle.hunt_commands.specs.Settings.{IsNamed}
-use Rattle.hunt_commands.specs.declared.failure.HuntFailure.{HuntFailure}
-use Rattle.hunt_commands.specs.declared.failure.HuntFailure.TheVariants.{Refused}
+use Rattle.program_files.specs.declared.failure.CommandFailure.{CommandFailure}
+use Rattle.program_files.specs.declared.failure.CommandFailure.TheVariants.{Hunt as Hunted}
 use Rattle.hunter.specs.Hunts.{IsHuntReason, IsImageCause, has_bad_range}
 use Rattle.hunter.specs.declared.error.HuntError.{HuntError}
 use Rattle.hunter.specs.declared.error.HuntError.TheVariants as hunting
@@ -46,11 +46,11 @@ pub told_so : {X : Type 0} (search : Search) (weak : Bool) (fault : Option HuntE
     ((cause : ImageCause) → fault ≡ None → IsImageCause s image cause →
     ◌≡◌ {A = Result X WeakHuntError} (Err e) (Err (hunts.Hunt (hunting.Run (refusals.Image cause))))
     ⊎ ◌≡◌ {A = Result X WeakHuntError} (Err e) (Err (hunts.Hunt (hunting.Run refusals.OutOfMemory)))) →
-    IsRefusedSo search weak fault s image failed (Refused e)
+    IsRefusedSo search weak fault s image failed (Hunted e)
 told_so {X} search weak fault s image failed e good settings errors loads = record {
-  of_settings = λ r f. ap Refused (same (hunts.Hunt r) (settings r f));
-  of_image = λ cause f i. ⊎_elim (λ h. inl (ap Refused (same (hunts.Hunt (hunting.Run (refusals.Image cause))) h)))
-      (λ h. inr (ap Refused (same (hunts.Hunt (hunting.Run refusals.OutOfMemory)) h))) (loads cause f i);
+  of_settings = λ r f. ap Hunted (same (hunts.Hunt r) (settings r f));
+  of_image = λ cause f i. ⊎_elim (λ h. inl (ap Hunted (same (hunts.Hunt (hunting.Run (refusals.Image cause))) h)))
+      (λ h. inr (ap Hunted (same (hunts.Hunt (hunting.Run refusals.OutOfMemory)) h))) (loads cause f i);
   reason = λ f. reason_so weak s image failed e good (errors f);
 }
   where
@@ -58,17 +58,17 @@ told_so {X} search weak fault s image failed e good settings errors loads = reco
     same r q = cc
 
 -- why a search is refused whose bytes can't be looked at
-pub fault_so : (search : Search) (weak : Bool) (fault : Option HuntError) (s : HuntSettings) (image : List ℕ) (failed : Type 0) (wrong : NamingFault) (f : HuntFailure) →
+pub fault_so : (search : Search) (weak : Bool) (fault : Option HuntError) (s : HuntSettings) (image : List ℕ) (failed : Type 0) (wrong : NamingFault) (f : CommandFailure) →
     IsNamed search image (Some wrong) →
-    ((r : HuntError) → fault ≡ Some r → f ≡ Refused (hunts.Hunt r)) →
+    ((r : HuntError) → fault ≡ Some r → f ≡ Hunted (hunts.Hunt r)) →
     ((cause : ImageCause) → fault ≡ None → IsImageCause s image cause →
-    (f ≡ Refused (hunts.Hunt (hunting.Run (refusals.Image cause)))) ⊎ (f ≡ Refused (hunts.Hunt (hunting.Run refusals.OutOfMemory)))) →
+    (f ≡ Hunted (hunts.Hunt (hunting.Run (refusals.Image cause)))) ⊎ (f ≡ Hunted (hunts.Hunt (hunting.Run refusals.OutOfMemory)))) →
     (fault ≡ None → IsFaultReason wrong s image f) → IsRefusedSo search weak fault s image failed f
 fault_so search weak fault s image failed wrong f named settings loads reason = record {
   of_settings = settings;
   of_image = loads;
-  reason = λ none. ⊎_elim (λ is. subst (λ (x : HuntFailure). IsReasonOf search weak s image failed x) (sym is) named)
-      (λ g. subst (λ (x : HuntFailure). IsReasonOf search weak s image failed x) (sym g.2) (guest_too s image failed g.0 g.1)) (reason none);
+  reason = λ none. ⊎_elim (λ is. subst (λ (x : CommandFailure). IsReasonOf search weak s image failed x) (sym is) named)
+      (λ g. subst (λ (x : CommandFailure). IsReasonOf search weak s image failed x) (sym g.2) (guest_too s image failed g.0 g.1)) (reason none);
 }
 
 -- the same of a search for a smaller plan
@@ -79,11 +79,11 @@ pub guest_told_so : {X : Type 0} (search : Search) (fault : Option HuntError) (s
     ((cause : ImageCause) → fault ≡ None → IsImageCause s image cause →
     ◌≡◌ {A = Result X HuntError} (Err e) (Err (hunting.Run (refusals.Image cause)))
     ⊎ ◌≡◌ {A = Result X HuntError} (Err e) (Err (hunting.Run refusals.OutOfMemory))) →
-    IsRefusedSo search false fault s image ⊥ (Refused (hunts.Hunt e))
+    IsRefusedSo search false fault s image ⊥ (Hunted (hunts.Hunt e))
 guest_told_so {X} search fault s image e good settings errors loads = record {
-  of_settings = λ r f. ap (λ (x : HuntError). Refused (hunts.Hunt x)) (same r (settings r f));
-  of_image = λ cause f i. ⊎_elim (λ h. inl (ap (λ (x : HuntError). Refused (hunts.Hunt x)) (same (hunting.Run (refusals.Image cause)) h)))
-      (λ h. inr (ap (λ (x : HuntError). Refused (hunts.Hunt x)) (same (hunting.Run refusals.OutOfMemory) h))) (loads cause f i);
+  of_settings = λ r f. ap (λ (x : HuntError). Hunted (hunts.Hunt x)) (same r (settings r f));
+  of_image = λ cause f i. ⊎_elim (λ h. inl (ap (λ (x : HuntError). Hunted (hunts.Hunt x)) (same (hunting.Run (refusals.Image cause)) h)))
+      (λ h. inr (ap (λ (x : HuntError). Hunted (hunts.Hunt x)) (same (hunting.Run refusals.OutOfMemory) h))) (loads cause f i);
   reason = λ f. guest_reason s image ⊥ e good (inl (errors f));
 }
   where

@@ -1,10 +1,10 @@
 -- Tables that are read file by file.
-use Rattle.std.proofs.Common.{◌≡◌, ◌∙◌, ◌+◌, ◌<◌, ◌++◌, ◌∷◌, [], Bor, List, ap, drop, get_or, length, map, subst, sym, take, ℕ}
+use Rattle.std.proofs.Common.{◌≡◌, ◌∙◌, ◌+◌, ◌<◌, ◌++◌, ◌∷◌, [], Bor, List, ap, drop, get_or, inl, inr, length, map, subst, sym, take, ⊎_elim, ℕ}
 use Rattle.std.proofs.lemmas.List.{drop_more, map-append, take-append-drop, take_more}
 use Rattle.std.proofs.lemmas.List.Elements.{All-push}
-use Rattle.hunt_commands.specs.Merges.{AreRead, HoldsTable, IsOneOf, IsReadEnd, IsUntabled, path_of}
-use Rattle.hunt_commands.specs.declared.merge_failure.MergeFailure.{MergeFailure}
-use Rattle.hunt_commands.specs.declared.merge_failure.MergeFailure.TheVariants as failures
+use Rattle.hunt_commands.specs.Merges.{AreRead, HoldsNone, HoldsTable, IsOneOf, IsReadEnd, IsUntabled, TellsFirst, path_of}
+use Rattle.program_files.specs.declared.failure.CommandFailure.{CommandFailure}
+use Rattle.program_files.specs.declared.failure.CommandFailure.TheVariants as failures
 use Rattle.hunt_commands.specs.declared.table_files.TableFile.{TableFile}
 use Rattle.program_files.proofs.Failing.{named_too}
 use Rattle.program_files.specs.declared.files.FileFault.{FileFault}
@@ -30,15 +30,10 @@ parts : (paths : List (Bor (List ℕ))) (i : ℕ) (d : Bor (List ℕ)) → i < l
 parts paths i d lt = ap words_of (sym (take-append-drop i paths) ∙ ap (λ (ps : List (Bor (List ℕ))). take i paths ++ ps) (drop_more paths i d lt))
     ∙ map-append (λ (s : Bor (List ℕ)). s.now) (take i paths) (get_or paths i d ∷ drop (i + 1) paths)
 
--- the file of the next path gives no table
-pub untabled_so : (holds : List ℕ → List ℕ → Type 0) (lacks : List ℕ → FileFault → Type 0) (paths : List (Bor (List ℕ))) (i : ℕ) (d : Bor (List ℕ)) (files : List TableFile) (e : MergeFailure) →
-    i < length paths → AreRead holds (words_of (take i paths)) files → IsUntabled holds lacks (get_or paths i d).now e → IsReadEnd holds lacks (words_of paths) e
-untabled_so holds lacks paths i d files (failures.Run failure) lt read h = named_too lacks _ (IsOneOf (words_of paths)) _ _ failure (λ path is. (
-  words_of (take i paths),
-  words_of (drop (i + 1) paths),
-  parts paths i d lt ∙ ap (λ (p : List ℕ). words_of (take i paths) ++ p ∷ words_of (drop (i + 1) paths)) (sym is),
-)) (λ none. none) h
-untabled_so holds lacks paths i d files (failures.NotATable path) lt read h = record {
+-- the file of the next path held no table
+none_so : (holds : List ℕ → List ℕ → Type 0) (paths : List (Bor (List ℕ))) (i : ℕ) (d : Bor (List ℕ)) (files : List TableFile) (e : CommandFailure) →
+    i < length paths → AreRead holds (words_of (take i paths)) files → HoldsNone holds (get_or paths i d).now e → TellsFirst holds (words_of paths) e
+none_so holds paths i d files (failures.NotATable path) lt read h = record {
   before = files;
   after = words_of (drop (i + 1) paths);
   stands = parts paths i d lt
@@ -49,5 +44,13 @@ untabled_so holds lacks paths i d files (failures.NotATable path) lt read h = re
   held = subst (λ (p : List ℕ). holds p h.1) (sym h.0) h.2;
   no_table = h.3;
 }
-untabled_so holds lacks paths i d files (failures.Apart last next why) lt read h = h
-untabled_so holds lacks paths i d files (failures.Merge error) lt read h = h
+none_so holds paths i d files _ lt read h = absurd h
+
+-- or it can't be read
+pub untabled_so : (holds : List ℕ → List ℕ → Type 0) (lacks : List ℕ → FileFault → Type 0) (paths : List (Bor (List ℕ))) (i : ℕ) (d : Bor (List ℕ)) (files : List TableFile) (e : CommandFailure) →
+    i < length paths → AreRead holds (words_of (take i paths)) files → IsUntabled holds lacks (get_or paths i d).now e → IsReadEnd holds lacks (words_of paths) e
+untabled_so holds lacks paths i d files e lt read h = ⊎_elim (λ unread. inl (named_too lacks _ (IsOneOf (words_of paths)) _ _ e (λ path is. (
+  words_of (take i paths),
+  words_of (drop (i + 1) paths),
+  parts paths i d lt ∙ ap (λ (p : List ℕ). words_of (take i paths) ++ p ∷ words_of (drop (i + 1) paths)) (sym is),
+)) (λ none. none) unread)) (λ none. inr (none_so holds paths i d files e lt read none)) h

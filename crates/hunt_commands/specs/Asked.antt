@@ -6,8 +6,8 @@ use Rattle.command_line.specs.declared.settings.Hunt.{Hunt}
 use Rattle.command_line.specs.declared.settings.Search.{Search}
 use Rattle.host_io.specs.declared.error.RunError.TheVariants as refusals
 use Rattle.host_io.specs.declared.load_error.LoadError.{LoadError as ImageCause}
-use Rattle.hunt_commands.specs.declared.failure.HuntFailure.{HuntFailure}
-use Rattle.hunt_commands.specs.declared.failure.HuntFailure.TheVariants.{Naming, Refused, Run}
+use Rattle.program_files.specs.declared.failure.CommandFailure.{CommandFailure}
+use Rattle.program_files.specs.declared.failure.CommandFailure.TheVariants as failures
 use Rattle.hunt_commands.specs.Settings.{HasEnd, HasNumbers, HasRanges, IsNamed}
 use Rattle.hunt_table.specs.Programs.{fingerprint_of}
 use Rattle.hunt_table.specs.Text.{table_text, with_count}
@@ -18,8 +18,7 @@ use Rattle.hunter.specs.declared.settings.HuntSettings.{HuntSettings}
 use Rattle.program_files.specs.declared.fault.NamingFault.{NamingFault}
 use Rattle.plan_hunt.specs.declared.row.Row.{Row}
 use Rattle.program_files.specs.Asked.{IsFileOfProgram, IsProgramOf, LacksSpurious}
-use Rattle.program_files.specs.Failures.{IsFileFailure}
-use Rattle.program_files.specs.declared.failure.RunFailure.TheVariants as runs
+use Rattle.program_files.specs.Failures.{IsCutEnd, IsFileFailure}
 use Rattle.program_files.specs.declared.files.FileFault.{FileFault}
 use Rattle.weak_hunter.specs.WeakHunts.{IsWeaklyHunted}
 use Rattle.weak_hunter.specs.declared.error.WeakHuntError.{WeakHuntError}
@@ -69,59 +68,47 @@ IsReason weak s image failed (hunts.Hunt e) = IsGuestReason s image failed e
 IsReason weak s image failed (hunts.Unconfirmed number) = weak ≡ true
 
 -- why the hunt that a line asks for is refused where its settings are in range
-abbrev pub IsReasonOf : Search → Bool → HuntSettings → List ℕ → Type 0 → HuntFailure → Type 0
-IsReasonOf search weak s image failed (Run failure) = ⊥
-IsReasonOf search weak s image failed (Refused error) = IsReason weak s image failed error
-IsReasonOf search weak s image failed (Naming fault) = IsNamed search image (Some fault)
+abbrev pub IsReasonOf : Search → Bool → HuntSettings → List ℕ → Type 0 → CommandFailure → Type 0
+IsReasonOf search weak s image failed (failures.Hunt error) = IsReason weak s image failed error
+IsReasonOf search weak s image failed (failures.Naming fault) = IsNamed search image (Some fault)
+IsReasonOf search weak s image failed _ = ⊥
 
 -- a search with these settings is refused: for what is out of range, then for the image, then for the bytes that it looks at, or for
 -- want of memory
-pub record IsRefusedSo (search : Search) (weak : Bool) (fault : Option HuntError) (s : HuntSettings) (image : List ℕ) (failed : Type 0) (f : HuntFailure) : Type 0 where
-  pub of_settings : (e : HuntError) → fault ≡ Some e → f ≡ Refused (hunts.Hunt e)
+pub record IsRefusedSo (search : Search) (weak : Bool) (fault : Option HuntError) (s : HuntSettings) (image : List ℕ) (failed : Type 0) (f : CommandFailure) : Type 0 where
+  pub of_settings : (e : HuntError) → fault ≡ Some e → f ≡ failures.Hunt (hunts.Hunt e)
   pub of_image : (cause : ImageCause) → fault ≡ None → IsImageCause s image cause →
-      (f ≡ Refused (hunts.Hunt (hunting.Run (refusals.Image cause)))) ⊎ (f ≡ Refused (hunts.Hunt (hunting.Run refusals.OutOfMemory)))
+      (f ≡ failures.Hunt (hunts.Hunt (hunting.Run (refusals.Image cause)))) ⊎ (f ≡ failures.Hunt (hunts.Hunt (hunting.Run refusals.OutOfMemory)))
   pub reason : fault ≡ None → IsReasonOf search weak s image failed f
 
 -- the search of a line is refused
-pub record RefusedSearch (search : Search) (first count : ℕ) (weak : Bool) (fault_of : HuntSettings → Option HuntError) (image : List ℕ) (failed : Type 0) (f : HuntFailure) : Type 0 where
+pub record RefusedSearch (search : Search) (first count : ℕ) (weak : Bool) (fault_of : HuntSettings → Option HuntError) (image : List ℕ) (failed : Type 0) (f : CommandFailure) : Type 0 where
   pub settings : HuntSettings
   pub numbers : HasNumbers search first count weak settings
   pub refused : IsRefusedSo search weak (fault_of settings) settings image failed f
 
 -- why a search is refused whose bytes can't be looked at: the image is refused before
-abbrev pub IsFaultReason : NamingFault → HuntSettings → List ℕ → HuntFailure → Type 0
-IsFaultReason fault s image f = (f ≡ Naming fault) ⊎ ((e : HuntError) × IsGuestReason s image ⊥ e × (f ≡ Refused (hunts.Hunt e)))
+abbrev pub IsFaultReason : NamingFault → HuntSettings → List ℕ → CommandFailure → Type 0
+IsFaultReason fault s image f = (f ≡ failures.Naming fault) ⊎ ((e : HuntError) × IsGuestReason s image ⊥ e × (f ≡ failures.Hunt (hunts.Hunt e)))
 
 -- the same as the hunter tells it, which knows ranges alone
 abbrev pub IsHuntRefusal : Bool → HuntSettings → List ℕ → Type 0 → WeakHuntError → Type 0
 IsHuntRefusal weak s image failed (hunts.Hunt e) = IsHuntReason s image e ⊎ ((e ≡ hunting.Run refusals.SinkFailed) × failed)
 IsHuntRefusal weak s image failed (hunts.Unconfirmed number) = weak ≡ true
 
--- memory is refused, or the output failed
-abbrev pub IsCutEnd : Type 0 → HuntFailure → Type 0
-IsCutEnd failed (Run failure) = (failure ≡ runs.Refused refusals.OutOfMemory) ⊎ ((failure ≡ runs.Refused refusals.SinkFailed) × failed)
-IsCutEnd failed (Refused error) = ⊥
-IsCutEnd failed (Naming fault) = ⊥
-
--- a file that is named couldn't be read, the image is without what is asked for, or memory is refused
-abbrev pub IsFileEnd : (List ℕ → FileFault → Type 0) → (List ℕ → Type 0) → Type 0 → HuntFailure → Type 0
-IsFileEnd lacks is_named is_without (Run failure) = IsFileFailure lacks is_named is_without failure
-IsFileEnd lacks is_named is_without (Refused error) = ⊥
-IsFileEnd lacks is_named is_without (Naming fault) = ⊥
-
 -- why a hunt ends without its table, where its files were read
-abbrev pub IsHuntEnd : Hunt → List ℕ → Type 0 → HuntFailure → Type 0
+abbrev pub IsHuntEnd : Hunt → List ℕ → Type 0 → CommandFailure → Type 0
 IsHuntEnd asked image failed f = IsCutEnd failed f ⊎ RefusedSearch asked.search asked.first asked.plans asked.weak hunt_fault image failed f
 
 -- the hunt that a line asks for is refused
-pub record RefusedHunt (holds : List ℕ → List ℕ → Type 0) (begins : List ℕ → ℕ → List ℕ → Type 0) (asked : Hunt) (failed : Type 0) (f : HuntFailure) : Type 0 where
+pub record RefusedHunt (holds : List ℕ → List ℕ → Type 0) (begins : List ℕ → ℕ → List ℕ → Type 0) (asked : Hunt) (failed : Type 0) (f : CommandFailure) : Type 0 where
   pub image : List ℕ
   pub input : List ℕ
   pub given : IsProgramOf holds begins asked.search.program image input
   pub refused : RefusedSearch asked.search asked.first asked.plans asked.weak hunt_fault image failed f
 
 -- why the command ends without its table
-abbrev pub EndsHunt : (List ℕ → List ℕ → Type 0) → (List ℕ → ℕ → List ℕ → Type 0) → (List ℕ → FileFault → Type 0) → Hunt → Type 0 → HuntFailure → Type 0
+abbrev pub EndsHunt : (List ℕ → List ℕ → Type 0) → (List ℕ → ℕ → List ℕ → Type 0) → (List ℕ → FileFault → Type 0) → Hunt → Type 0 → CommandFailure → Type 0
 EndsHunt holds begins lacks asked failed f =
-    IsFileEnd lacks (IsFileOfProgram asked.search.program) (LacksSpurious holds begins asked.search.program) f ⊎ IsCutEnd failed f
+    IsFileFailure lacks (IsFileOfProgram asked.search.program) (LacksSpurious holds begins asked.search.program) f ⊎ IsCutEnd failed f
     ⊎ RefusedHunt holds begins asked failed f

@@ -1,6 +1,5 @@
 pub mod Settings
 pub mod Asked
-pub mod Failures
 pub mod Merges
 pub mod Plans
 pub mod Shrinks

@@ -6,18 +6,17 @@ use Rattle.std.specs.List.Sorted.{IsNonDecreasingBy, IsStableByKey}
 use Rattle.std.specs.Ordering.{nat_cmp}
 use Rattle.command_line.specs.declared.settings.Merge.{Merge}
 use Rattle.host_io.specs.declared.error.RunError.TheVariants as refusals
-use Rattle.hunt_commands.specs.declared.merge_failure.MergeFailure.{MergeFailure}
-use Rattle.hunt_commands.specs.declared.merge_failure.MergeFailure.TheVariants as failures
-use Rattle.hunt_commands.specs.declared.neighbours.Apart.{Apart}
-use Rattle.hunt_commands.specs.declared.neighbours.Apart.TheVariants as causes
+use Rattle.program_files.specs.declared.failure.CommandFailure.{CommandFailure}
+use Rattle.program_files.specs.declared.failure.CommandFailure.TheVariants as failures
+use Rattle.program_files.specs.declared.reasons.Apart.{Apart}
+use Rattle.program_files.specs.declared.reasons.Apart.TheVariants as causes
 use Rattle.hunt_commands.specs.declared.table_files.TableFile.{TableFile}
 use Rattle.hunt_table.specs.Merging.{AreApart, AreMerged, IsFirstNoTable, IsFirstOfOther, IsNoTable, IsOfHunt, harts_of}
 use Rattle.hunt_table.specs.Text.{IsTextOf, table_text}
 use Rattle.hunt_table.specs.declared.merge_error.MergeError.{MergeError}
 use Rattle.hunt_table.specs.declared.merge_error.MergeError.TheVariants as merging
 use Rattle.hunt_table.specs.declared.table.Table.{Table}
-use Rattle.program_files.specs.Failures.{IsFileFailure}
-use Rattle.program_files.specs.declared.failure.RunFailure.TheVariants as runs
+use Rattle.program_files.specs.Failures.{IsCutEnd, IsFileFailure}
 use Rattle.program_files.specs.declared.files.FileFault.{FileFault}
 
 -- ---- the tables of a line
@@ -131,12 +130,14 @@ pub record AreFirstApart (files : List TableFile) (last next : List ℕ) (why : 
 
 -- ---- refusals
 
--- the file of a path can't be read, or it held no table
-abbrev pub IsUntabled : (List ℕ → List ℕ → Type 0) → (List ℕ → FileFault → Type 0) → List ℕ → MergeFailure → Type 0
-IsUntabled holds lacks path (failures.Run failure) = IsFileFailure lacks (λ named. named ≡ path) ⊥ failure
-IsUntabled holds lacks path (failures.NotATable named) = (string_bytes named ≡ path) × (text : List ℕ) × holds path text × IsNoTable text
-IsUntabled holds lacks path (failures.Apart last next why) = ⊥
-IsUntabled holds lacks path (failures.Merge error) = ⊥
+-- the file of a path held no table
+abbrev pub HoldsNone : (List ℕ → List ℕ → Type 0) → List ℕ → CommandFailure → Type 0
+HoldsNone holds path (failures.NotATable named) = (string_bytes named ≡ path) × (text : List ℕ) × holds path text × IsNoTable text
+HoldsNone holds path _ = ⊥
+
+-- that, or it can't be read
+abbrev pub IsUntabled : (List ℕ → List ℕ → Type 0) → (List ℕ → FileFault → Type 0) → List ℕ → CommandFailure → Type 0
+IsUntabled holds lacks path failure = IsFileFailure lacks (λ named. named ≡ path) ⊥ failure ⊎ HoldsNone holds path failure
 
 -- of the paths, this one is the first whose file held no table
 pub record IsFirstUntabled (holds : List ℕ → List ℕ → Type 0) (paths : List (List ℕ)) (path : List ℕ) : Type 0 where
@@ -152,12 +153,14 @@ pub record IsFirstUntabled (holds : List ℕ → List ℕ → Type 0) (paths : L
 abbrev pub IsOneOf : List (List ℕ) → List ℕ → Type 0
 IsOneOf paths path = (before : List (List ℕ)) × (after : List (List ℕ)) × (paths ≡ before ++ path ∷ after)
 
+-- the file that is told is the first of the paths' that held no table
+abbrev pub TellsFirst : (List ℕ → List ℕ → Type 0) → List (List ℕ) → CommandFailure → Type 0
+TellsFirst holds paths (failures.NotATable path) = IsFirstUntabled holds paths (string_bytes path)
+TellsFirst holds paths _ = ⊥
+
 -- why not all files give a table
-abbrev pub IsReadEnd : (List ℕ → List ℕ → Type 0) → (List ℕ → FileFault → Type 0) → List (List ℕ) → MergeFailure → Type 0
-IsReadEnd holds lacks paths (failures.Run failure) = IsFileFailure lacks (IsOneOf paths) ⊥ failure
-IsReadEnd holds lacks paths (failures.NotATable path) = IsFirstUntabled holds paths (string_bytes path)
-IsReadEnd holds lacks paths (failures.Apart last next why) = ⊥
-IsReadEnd holds lacks paths (failures.Merge error) = ⊥
+abbrev pub IsReadEnd : (List ℕ → List ℕ → Type 0) → (List ℕ → FileFault → Type 0) → List (List ℕ) → CommandFailure → Type 0
+IsReadEnd holds lacks paths failure = IsFileFailure lacks (IsOneOf paths) ⊥ failure ⊎ TellsFirst holds paths failure
 
 -- why texts aren't merged that are those of tables of which each goes on where the one before it ends
 abbrev pub IsRefusal : MergeError → List (Vec ℕ) → Type 0
@@ -166,23 +169,26 @@ IsRefusal merging.NotATable texts = IsFirstNoTable texts
 IsRefusal merging.Apart texts = AreApart texts
 IsRefusal merging.OtherProgram texts = IsFirstOfOther texts
 
--- why the tables of these files aren't merged: two are apart, or else the merge is refused; or memory is, or the output failed
-abbrev pub IsMergeEnd : List TableFile → Type 0 → MergeFailure → Type 0
-IsMergeEnd files failed (failures.Run failure) = (failure ≡ runs.Refused refusals.OutOfMemory) ⊎ ((failure ≡ runs.Refused refusals.SinkFailed) × failed)
-IsMergeEnd files failed (failures.NotATable path) = ⊥
-IsMergeEnd files failed (failures.Apart last next why) = AreFirstApart files (string_bytes last) (string_bytes next) why
-IsMergeEnd files failed (failures.Merge error) = GoOnUpTo files (length files) × IsRefusal error (map text_of files)
+-- two of the files have tables apart: those that are told
+abbrev pub TellsApart : List TableFile → CommandFailure → Type 0
+TellsApart files (failures.Apart last next why) = AreFirstApart files (string_bytes last) (string_bytes next) why
+TellsApart files _ = ⊥
+
+-- or else their merge is refused
+abbrev pub TellsRefusal : List TableFile → CommandFailure → Type 0
+TellsRefusal files (failures.Merge error) = GoOnUpTo files (length files) × IsRefusal error (map text_of files)
+TellsRefusal files _ = ⊥
+
+-- why the tables of these files aren't merged: for that; or memory is refused, or the output failed
+abbrev pub IsMergeEnd : List TableFile → Type 0 → CommandFailure → Type 0
+IsMergeEnd files failed failure = IsCutEnd failed failure ⊎ TellsApart files failure ⊎ TellsRefusal files failure
 
 -- the same of the files of a line
-pub record IsRefusedMerge (holds : List ℕ → List ℕ → Type 0) (asked : Merge) (failed : Type 0) (f : MergeFailure) : Type 0 where
+pub record IsRefusedMerge (holds : List ℕ → List ℕ → Type 0) (asked : Merge) (failed : Type 0) (f : CommandFailure) : Type 0 where
   pub files : List TableFile
   pub tables : AreTables holds (paths_of asked) files
   pub refused : IsMergeEnd files failed f
 
 -- why the command ends without its table
-abbrev pub EndsMerge : (List ℕ → List ℕ → Type 0) → (List ℕ → FileFault → Type 0) → Merge → Type 0 → MergeFailure → Type 0
-EndsMerge holds lacks asked failed (failures.Run failure) =
-    IsFileFailure lacks (IsOneOf (paths_of asked)) ⊥ failure ⊎ ((failure ≡ runs.Refused refusals.SinkFailed) × failed)
-EndsMerge holds lacks asked failed (failures.NotATable path) = IsFirstUntabled holds (paths_of asked) (string_bytes path)
-EndsMerge holds lacks asked failed (failures.Apart last next why) = IsRefusedMerge holds asked failed (failures.Apart last next why)
-EndsMerge holds lacks asked failed (failures.Merge error) = IsRefusedMerge holds asked failed (failures.Merge error)
+abbrev pub EndsMerge : (List ℕ → List ℕ → Type 0) → (List ℕ → FileFault → Type 0) → Merge → Type 0 → CommandFailure → Type 0
+EndsMerge holds lacks asked failed failure = IsReadEnd holds lacks (paths_of asked) failure ⊎ IsCutEnd failed failure ⊎ IsRefusedMerge holds asked failed failure

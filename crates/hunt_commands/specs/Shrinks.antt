@@ -1,14 +1,15 @@
 -- The smaller plan that `shrink` prints, and why it ends without it.
 use Rattle.std.specs.Prelude.{◌⊎◌, ℕ, List, false}
 use Rattle.command_line.specs.declared.settings.Shrink.{Shrink}
-use Rattle.hunt_commands.specs.Asked.{IsCutEnd, IsFileEnd, RefusedSearch}
+use Rattle.hunt_commands.specs.Asked.{RefusedSearch}
 use Rattle.hunt_commands.specs.Settings.{HasNumbers, HasRanges}
-use Rattle.hunt_commands.specs.declared.failure.HuntFailure.{HuntFailure}
+use Rattle.program_files.specs.declared.failure.CommandFailure.{CommandFailure}
 use Rattle.hunter.specs.Hunts.{ends_under, family_of, shrink_fault}
 use Rattle.hunter.specs.declared.settings.HuntSettings.{HuntSettings}
 use Rattle.round_planner.specs.Families.{family_plan}
 use Rattle.plan_hunt.specs.Steps.{IsShrunk}
 use Rattle.program_files.specs.Asked.{IsFileOfProgram, IsProgramOf, LacksSpurious}
+use Rattle.program_files.specs.Failures.{IsCutEnd, IsFileFailure}
 use Rattle.program_files.specs.declared.files.FileFault.{FileFault}
 use Rattle.round_planner.specs.PlanText.{plan_text}
 use Rattle.round_planner.specs.Quotas.{Planned}
@@ -33,18 +34,18 @@ pub record AskedShrink (holds : List ℕ → List ℕ → Type 0) (begins : List
   pub made : SetShrink asked image input
 
 -- why it ends without a plan, where its files were read: there is no output yet that could fail
-abbrev pub IsShrinkEnd : Shrink → List ℕ → HuntFailure → Type 0
+abbrev pub IsShrinkEnd : Shrink → List ℕ → CommandFailure → Type 0
 IsShrinkEnd asked image f = IsCutEnd ⊥ f ⊎ RefusedSearch asked.search asked.plan_number 1 false shrink_fault image ⊥ f
 
 -- the search that a line asks for is refused
-pub record RefusedShrink (holds : List ℕ → List ℕ → Type 0) (begins : List ℕ → ℕ → List ℕ → Type 0) (asked : Shrink) (f : HuntFailure) : Type 0 where
+pub record RefusedShrink (holds : List ℕ → List ℕ → Type 0) (begins : List ℕ → ℕ → List ℕ → Type 0) (asked : Shrink) (f : CommandFailure) : Type 0 where
   pub image : List ℕ
   pub input : List ℕ
   pub given : IsProgramOf holds begins asked.search.program image input
   pub refused : RefusedSearch asked.search asked.plan_number 1 false shrink_fault image ⊥ f
 
 -- why the command ends without a plan
-abbrev pub EndsShrink : (List ℕ → List ℕ → Type 0) → (List ℕ → ℕ → List ℕ → Type 0) → (List ℕ → FileFault → Type 0) → Shrink → Type 0 → HuntFailure → Type 0
+abbrev pub EndsShrink : (List ℕ → List ℕ → Type 0) → (List ℕ → ℕ → List ℕ → Type 0) → (List ℕ → FileFault → Type 0) → Shrink → Type 0 → CommandFailure → Type 0
 EndsShrink holds begins lacks asked failed f =
-    IsFileEnd lacks (IsFileOfProgram asked.search.program) (LacksSpurious holds begins asked.search.program) f ⊎ IsCutEnd failed f
+    IsFileFailure lacks (IsFileOfProgram asked.search.program) (LacksSpurious holds begins asked.search.program) f ⊎ IsCutEnd failed f
     ⊎ RefusedShrink holds begins asked f

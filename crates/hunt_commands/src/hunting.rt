@@ -1,11 +1,9 @@
 ghost use Rattle.std.specs.Prelude.{◌≡◌, ◌⊎◌, ◌++◌, IfErr, IfOk, OnErr};
 ghost use Rattle.host_io.specs.Taken.{BeganText};
 ghost use Rattle.hunt_commands.specs.Asked.{AskedHunt, EndsHunt, IsHuntEnd, SetHunt, hunt_text};
-ghost use Rattle.program_files.specs.Failures.{HasFailed, IsUnprinted};
-ghost use Rattle.hunt_commands.specs.Failures.{failure_number};
+ghost use Rattle.program_files.specs.Failures.{HasFailed, IsUnprinted, failure_number};
 ghost use Rattle.hunt_commands.specs.Status.{hunt_status};
 
-use crate::failure::HuntFailure;
 use crate::refusing::refused_for;
 use crate::repeating::{tell_endings, tell_weak_running};
 use crate::settings::{hunt_settings, named_in, tell_decimals};
@@ -15,7 +13,8 @@ use crate::weak_hunts::WeakHunts;
 use command_line::Hunt;
 use plan_hunt::{HuntObserver, Tally};
 use program_files::{
-    ExitStatus, Files, Messages, NamedBytes, Output, ProgramFiles, ProgressLine, read_program,
+    CommandFailure, ExitStatus, Files, Messages, NamedBytes, Output, ProgramFiles, ProgressLine,
+    read_program,
 };
 use std::alloc::Global;
 use std::sync::Wait;
@@ -26,8 +25,8 @@ use std::thread::Threads;
 ///
 /// # Errors
 ///
-/// `Run` where a file can't be read or the output can't be written; `Refused` for the settings, then for the image, and for an execution
-/// that isn't confirmed; then `Naming` for bytes that can't be looked at; the refusal of memory at any time.
+/// `File` where one can't be read, and `NoSpurious`; `Hunt` for the settings, then for the image, and for an execution that isn't confirmed;
+/// then `Naming` for bytes that can't be looked at; `SinkFailed`; the refusal of memory at any time.
 pub fn hunt_command<
     F: Files,
     O: Output,
@@ -44,7 +43,7 @@ pub fn hunt_command<
     progress: &P,
     out: &mut O,
     messages: &M,
-) -> Result<ExitStatus, HuntFailure>
+) -> Result<ExitStatus, CommandFailure>
     // All that was printed is the table of the hunt that the line asks for, and the status is that of this table.
     ensures hunts { IfOk result (λ status.
         (a : AskedHunt (F.holds files.now) (F.begins files.now) W.hunts asked.now) ×
@@ -82,7 +81,7 @@ fn hunt_given<O: Output, W: WeakHunts, P: HuntObserver + Sync, R: Threads + Wait
     asked: &Hunt<'_>,
     observer: &P,
     out: &mut O,
-) -> Result<Tally, HuntFailure>
+) -> Result<Tally, CommandFailure>
     ensures hunts { IfOk result (λ t.
         (h : SetHunt W.hunts asked.now files.now.image.items files.now.input.items) ×
         (O.took out.new ≡ O.took out.old ++ hunt_text h) × (t.rows.items ≡ h.rows)) }

@@ -2,10 +2,8 @@
 //! which prints such a plan.
 #![tactic(auto)]
 
-mod failure;
 mod finds;
 mod hunting;
-mod merge_failure;
 mod merging;
 mod neighbours;
 mod planning;
@@ -18,12 +16,9 @@ mod table_files;
 mod tabling;
 mod weak_hunts;
 
-pub use failure::HuntFailure;
 pub use finds::Finds;
 pub use hunting::hunt_command;
-pub use merge_failure::MergeFailure;
 pub use merging::merge_command;
-pub use neighbours::Apart;
 pub use planning::plan_command;
 pub use refusing::refused_for;
 pub use repeating::{line_of, quoted, tell_bounds, weak_line_of};

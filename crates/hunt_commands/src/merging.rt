@@ -1,17 +1,16 @@
 ghost use Rattle.std.specs.Prelude.{◌≡◌, ◌⊎◌, ◌++◌, IfErr, IfOk, OnErr};
 ghost use Rattle.host_io.specs.Taken.{BeganText};
-ghost use Rattle.hunt_commands.specs.Merges.{AskedMerge, EndsMerge, IsFirstApartAt, IsMergeEnd, SetMerge, merged_text};
+ghost use Rattle.hunt_commands.specs.Merges.{AskedMerge, EndsMerge, IsFirstApartAt, IsMergeEnd, SetMerge, TellsApart, merged_text};
 ghost use Rattle.hunt_commands.specs.Status.{hunt_status};
 ghost use Rattle.program_files.specs.Failures.{HasFailed};
 
-use crate::merge_failure::MergeFailure;
-use crate::neighbours::{Apart, first_apart};
+use crate::neighbours::first_apart;
 use crate::repeating::tell_merged;
 use crate::status::hunt_status;
 use crate::table_files::{TableFile, tables_in_order, texts_of};
 use command_line::Merge;
 use hunt_table::{Table, merge};
-use program_files::{ExitStatus, Files, Messages, Output};
+use program_files::{Apart, CommandFailure, ExitStatus, Files, Messages, Output};
 use std::alloc::{AllocError, Global};
 
 /// Joins the tables of some files, whose order doesn't matter, and prints the table of all their plans. Standard error says for each ending
@@ -19,16 +18,16 @@ use std::alloc::{AllocError, Global};
 ///
 /// # Errors
 ///
-/// For the files in the order of the line, `Run` where one can't be read and `NotATable` where one has no table; then `Apart` for the
+/// For the files in the order of the line, `File` where one can't be read and `NotATable` where one has no table; then `Apart` for the
 /// first two neighbours, in the order of their first plans, of which the second isn't the slice that follows; then `Merge`. The refusal of
-/// memory comes at any time, and `Run` at last where the output can't be written.
+/// memory comes at any time, and `SinkFailed` at last where the output can't be written.
 pub fn merge_command<F: Files, O: Output, M: Messages>(
     alloc: Global,
     files: &F,
     asked: &Merge<'_>,
     out: &mut O,
     messages: &M,
-) -> Result<ExitStatus, MergeFailure>
+) -> Result<ExitStatus, CommandFailure>
     // All that was printed is the table that those in the files of the line are merged to, and the status is that of this table.
     ensures merges { IfOk result (λ status. (a : AskedMerge (F.holds files.now) asked.now) ×
         (O.took out.new ≡ O.took out.old ++ merged_text a.made) × O.is_out out.new ×
@@ -53,7 +52,7 @@ fn put_merged<O: Output>(
     alloc: Global,
     files: Vec<TableFile<'_>>,
     out: &mut O,
-) -> Result<Table, MergeFailure>
+) -> Result<Table, CommandFailure>
     ensures merges { IfOk result (λ t. (m : SetMerge files.entry.items) ×
         (O.took out.new ≡ O.took out.old ++ merged_text m) × (t ≡ m.table)) }
     ensures begun { OnErr result ((O.took out.new ≡ O.took out.old) ⊎
@@ -75,11 +74,11 @@ fn apart_at(
     files: &[TableFile<'_>],
     index: usize,
     why: Apart,
-) -> Result<MergeFailure, AllocError>
+) -> Result<CommandFailure, AllocError>
     requires { IsFirstApartAt files.now index why }
-    ensures { IfOk result (IsMergeEnd files.now ⊥) }
+    ensures { IfOk result (TellsApart files.now) }
 {
     let last = String::from_str(alloc, files[index - 1].path)?;
     let next = String::from_str(alloc, files[index].path)?;
-    Ok(MergeFailure::Apart(last, next, why))
+    Ok(CommandFailure::Apart(last, next, why))
 }

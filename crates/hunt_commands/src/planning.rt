@@ -3,13 +3,13 @@ ghost use Rattle.host_io.specs.Taken.{BeganText};
 ghost use Rattle.host_io.specs.declared.error.RunError.TheVariants as refusals;
 ghost use Rattle.hunt_commands.specs.Plans.{EndsPlan, has_bad_harts, IsAskedPlan};
 ghost use Rattle.program_files.specs.Failures.{HasFailed};
-ghost use Rattle.program_files.specs.declared.failure.RunFailure.TheVariants as failures;
+ghost use Rattle.program_files.specs.declared.failure.CommandFailure.TheVariants as failures;
 ghost use Rattle.program_files.specs.declared.exit_status.ExitStatus.TheVariants as statuses;
 
 use crate::repeating::tell_plan;
 use command_line::Plan;
 use host_io::{RunError, put_all};
-use program_files::{AskedPlan, ExitStatus, Messages, Output, RunFailure, family_plan};
+use program_files::{AskedPlan, CommandFailure, ExitStatus, Messages, Output, family_plan};
 use round_planner::Family;
 use round_schedule::MOST_HARTS;
 use std::alloc::Global;
@@ -25,7 +25,7 @@ pub fn plan_command<O: Output, M: Messages>(
     asked: &Plan,
     out: &mut O,
     messages: &M,
-) -> Result<ExitStatus, RunFailure>
+) -> Result<ExitStatus, CommandFailure>
     // All that was printed is the text of the plan that the line asks for.
     ensures plans { IfOk result (λ status. (text : List ℕ) × IsAskedPlan asked.now text ×
         (O.took out.new ≡ O.took out.old ++ text) × O.is_out out.new × (status ≡ statuses.Done)) }
@@ -46,14 +46,14 @@ pub fn plan_command<O: Output, M: Messages>(
 }
 
 /// The plan that the line asks for.
-fn asked_plan(alloc: Global, asked: &Plan) -> Result<AskedPlan, RunFailure>
+fn asked_plan(alloc: Global, asked: &Plan) -> Result<AskedPlan, CommandFailure>
     ensures plan { IfOk result (λ p. IsAskedPlan asked.now p.text.items) }
     ensures harts { has_bad_harts asked.now.harts ≡ true →
         result ≡ Err (failures.Refused refusals.HartsOutOfRange) }
     ensures errors { IfErr result (EndsPlan asked.now ⊥) }
 {
     if asked.harts < 1 || asked.harts > MOST_HARTS {
-        return Err(RunFailure::Refused(RunError::HartsOutOfRange));
+        return Err(CommandFailure::Refused(RunError::HartsOutOfRange));
     }
     let family = Family {
         seed: asked.seed,

@@ -1,13 +1,10 @@
 ghost use Rattle.std.specs.Prelude.{◌≡◌, ◌⊎◌, ◌++◌, IfErr, IfOk, OnErr, OnOk};
 ghost use Rattle.host_io.specs.Taken.{BeganText};
-ghost use Rattle.hunt_commands.specs.Asked.{IsCutEnd};
-ghost use Rattle.program_files.specs.Failures.{HasFailed, IsUnprinted};
-ghost use Rattle.hunt_commands.specs.Failures.{failure_number};
+ghost use Rattle.program_files.specs.Failures.{HasFailed, IsCutEnd, IsUnprinted, failure_number};
 ghost use Rattle.hunt_commands.specs.Shrinks.{AskedShrink, EndsShrink, IsShrinkEnd, SetShrink, shrunk_text};
 ghost use Rattle.program_files.specs.declared.exit_status.ExitStatus.TheVariants as statuses;
 ghost use Rattle.round_planner.specs.PlanText.{plan_text};
 
-use crate::failure::HuntFailure;
 use crate::refusing::refused_for_guest;
 use crate::repeating::tell_shrunk;
 use crate::settings::{named_in, settings_of, tell_decimals};
@@ -15,7 +12,8 @@ use command_line::Shrink;
 use host_io::put_all;
 use hunter::{ShrinkObserver, shrink};
 use program_files::{
-    ExitStatus, Files, Messages, NamedBytes, Output, ProgramFiles, ProgressLine, read_program,
+    CommandFailure, ExitStatus, Files, Messages, NamedBytes, Output, ProgramFiles, ProgressLine,
+    read_program,
 };
 use round_planner::Plan;
 use std::alloc::Global;
@@ -27,8 +25,8 @@ use std::thread::Threads;
 ///
 /// # Errors
 ///
-/// `Run` where a file can't be read or the output can't be written; `Refused` for the settings and then for the image; then `Naming` for
-/// bytes that can't be looked at; the refusal of memory at any time.
+/// `File` where one can't be read, and `NoSpurious`; `Hunt` for the settings and then for the image; then `Naming` for bytes that can't be
+/// looked at; `SinkFailed`; the refusal of memory at any time.
 pub fn shrink_command<
     F: Files,
     O: Output,
@@ -43,7 +41,7 @@ pub fn shrink_command<
     progress: &mut P,
     out: &mut O,
     messages: &M,
-) -> Result<ExitStatus, HuntFailure>
+) -> Result<ExitStatus, CommandFailure>
     // All that was printed is the text of a plan that the search of the line leads to.
     ensures shrinks { IfOk result (λ status.
         (a : AskedShrink (F.holds files.now) (F.begins files.now) asked.now) ×
@@ -77,7 +75,7 @@ fn shrink_given<P: ShrinkObserver + ProgressLine, R: Threads + Wait + Sync>(
     files: &ProgramFiles,
     asked: &Shrink<'_>,
     progress: &mut P,
-) -> Result<Plan, HuntFailure>
+) -> Result<Plan, CommandFailure>
     ensures shrinks { IfOk result (λ plan.
         (s : SetShrink asked.now files.now.image.items files.now.input.items) ×
         (plan ≡ s.plan)) }
@@ -98,7 +96,7 @@ fn shrink_given<P: ShrinkObserver + ProgressLine, R: Threads + Wait + Sync>(
 }
 
 /// Prints a plan.
-fn put_plan<O: Output>(alloc: Global, plan: &Plan, out: &mut O) -> Result<(), HuntFailure>
+fn put_plan<O: Output>(alloc: Global, plan: &Plan, out: &mut O) -> Result<(), CommandFailure>
     ensures puts { OnOk result (O.took out.new ≡ O.took out.old ++ plan_text plan.now.rows) }
     ensures begun { OnErr result ((O.took out.new ≡ O.took out.old) ⊎
         BeganText (O.took out.old) (O.took out.new) (plan_text plan.now.rows)) }

@@ -2,10 +2,9 @@
 ghost use Rattle.std.specs.Prelude.{◌≡◌, IfErr, IfOk, map};
 ghost use Rattle.hunt_commands.specs.Merges.{AreRead, AreTables, HoldsTable, IsReadEnd, IsUntabled, text_of};
 
-use crate::merge_failure::MergeFailure;
 use host_io::RunError;
 use hunt_table::{ReadError, Table, read_table};
-use program_files::{Files, read_file};
+use program_files::{CommandFailure, Files, read_file};
 use std::alloc::{AllocError, Global};
 
 /// A table, and the file that has it.
@@ -23,12 +22,12 @@ pub struct TableFile<'a> {
 ///
 /// # Errors
 ///
-/// `Run` where a file can't be read, and `NotATable`, each for the first such file of the line; the refusal of memory at any time.
+/// `File` where one can't be read, and `NotATable`, each for the first such file of the line; the refusal of memory at any time.
 pub(crate) fn tables_in_order<'a, F: Files>(
     files: &F,
     alloc: Global,
     paths: &[&'a str],
-) -> Result<Vec<TableFile<'a>>, MergeFailure>
+) -> Result<Vec<TableFile<'a>>, CommandFailure>
     ensures tables { IfOk result (λ v.
         AreTables (F.holds files.now) (map (λ s. s.now) paths.now) v.items) }
     ensures errors { IfErr result (IsReadEnd (F.holds files.now) (F.lacks files.now)
@@ -44,7 +43,7 @@ fn read_tables<'a, F: Files>(
     files: &F,
     alloc: Global,
     paths: &[&'a str],
-) -> Result<Vec<TableFile<'a>>, MergeFailure>
+) -> Result<Vec<TableFile<'a>>, CommandFailure>
     ensures read { IfOk result (λ v.
         AreRead (F.holds files.now) (map (λ s. s.now) paths.now) v.items) }
     ensures errors { IfErr result (IsReadEnd (F.holds files.now) (F.lacks files.now)
@@ -61,12 +60,12 @@ fn read_tables<'a, F: Files>(
 ///
 /// # Errors
 ///
-/// `Run` where the file can't be read, `NotATable` where it has no table; the refusal of memory at any time.
+/// `File` where it can't be read, `NotATable` where it has no table; the refusal of memory at any time.
 pub fn read_table_of<'a, F: Files>(
     files: &F,
     alloc: Global,
     path: &'a str,
-) -> Result<TableFile<'a>, MergeFailure>
+) -> Result<TableFile<'a>, CommandFailure>
     ensures path { IfOk result (λ f. f.path.now ≡ path.now) }
     ensures held { IfOk result (HoldsTable (F.holds files.now)) }
     ensures errors { IfErr result (IsUntabled (F.holds files.now) (F.lacks files.now) path.now) }
@@ -75,9 +74,9 @@ pub fn read_table_of<'a, F: Files>(
     match read_table(alloc, &text) {
         Ok(table) => Ok(TableFile { path, text, table }),
         Err(ReadError::NotATable) => {
-            Err(MergeFailure::NotATable(String::from_str(alloc, path)?))
+            Err(CommandFailure::NotATable(String::from_str(alloc, path)?))
         }
-        Err(ReadError::OutOfMemory) => Err(MergeFailure::from(RunError::OutOfMemory)),
+        Err(ReadError::OutOfMemory) => Err(CommandFailure::from(RunError::OutOfMemory)),
     }
 }
 

@@ -2,19 +2,17 @@
 -- one couldn't be read for a fault, and `failed` that the output failed.
 use Rattle.std.specs.Prelude.{◌≡◌, ◌⊎◌, List, ℕ}
 use Rattle.command_line.specs.declared.settings.Compare.{Compare}
-use Rattle.host_io.specs.declared.error.RunError.TheVariants as refusals
 use Rattle.hunt_commands.specs.Merges.{HoldsTable, IsUntabled}
-use Rattle.hunt_commands.specs.declared.merge_failure.MergeFailure.{MergeFailure}
-use Rattle.hunt_commands.specs.declared.merge_failure.MergeFailure.TheVariants as reads
+use Rattle.program_files.specs.declared.failure.CommandFailure.{CommandFailure}
 use Rattle.hunt_commands.specs.declared.table_files.TableFile.{TableFile}
 use Rattle.hunt_comparison.specs.Text.{comparison_text}
 use Rattle.hunt_comparison.specs.Twins.{AreCompared}
 use Rattle.hunt_comparison.specs.Unlikes.{IsLike, IsUnlike}
-use Rattle.hunt_comparison.specs.declared.failure.CompareFailure.{CompareFailure}
-use Rattle.hunt_comparison.specs.declared.failure.CompareFailure.TheVariants as failures
+use Rattle.program_files.specs.declared.failure.CommandFailure.TheVariants as failures
 use Rattle.hunt_comparison.specs.declared.twins.Compared.{Compared}
 use Rattle.hunt_table.specs.declared.table.Table.{Table}
-use Rattle.program_files.specs.declared.failure.RunFailure.TheVariants as runs
+use Rattle.program_files.specs.declared.reasons.Unlike.{Unlike}
+use Rattle.program_files.specs.Failures.{IsCutEnd}
 use Rattle.program_files.specs.declared.files.FileFault.{FileFault}
 
 -- the files of the paths held these tables
@@ -44,17 +42,16 @@ abbrev pub compared_text : {old new : Table} → ComparedTables old new → List
 compared_text {old} {new} c = comparison_text old.header new.header c.olds c.news
 
 -- the table of a path wasn't read, or the output failed, or memory is refused
-abbrev pub IsUnread : (List ℕ → List ℕ → Type 0) → (List ℕ → FileFault → Type 0) → Compare → Type 0 → MergeFailure → Type 0
-IsUnread holds lacks asked failed failure = IsUntabled holds lacks asked.old.now failure ⊎ IsUntabled holds lacks asked.new.now failure
-    ⊎ (failure ≡ reads.Run (runs.Refused refusals.OutOfMemory)) ⊎ ((failure ≡ reads.Run (runs.Refused refusals.SinkFailed)) × failed)
+abbrev pub IsUnread : (List ℕ → List ℕ → Type 0) → (List ℕ → FileFault → Type 0) → Compare → Type 0 → CommandFailure → Type 0
+IsUnread holds lacks asked failed failure =
+    IsUntabled holds lacks asked.old.now failure ⊎ IsUntabled holds lacks asked.new.now failure ⊎ IsCutEnd failed failure
 
 -- why the command ends without its comparison
-abbrev pub EndsComparison : (List ℕ → List ℕ → Type 0) → (List ℕ → FileFault → Type 0) → Compare → Type 0 → CompareFailure → Type 0
-EndsComparison holds lacks asked failed (failures.Table failure) = IsUnread holds lacks asked failed failure
-EndsComparison holds lacks asked failed (failures.Unlike why) = (g : GivenTables holds asked) × IsUnlike why g.old.table g.new.table
+abbrev pub EndsComparison : (List ℕ → List ℕ → Type 0) → (List ℕ → FileFault → Type 0) → Compare → Type 0 → CommandFailure → Type 0
+EndsComparison holds lacks asked failed failure = IsUnread holds lacks asked failed failure
+    ⊎ ((why : Unlike) × (failure ≡ failures.Unlike why) × (g : GivenTables holds asked) × IsUnlike why g.old.table g.new.table)
 
 -- the same where both tables were read
-abbrev pub IsComparedEnd : Table → Table → Type 0 → CompareFailure → Type 0
-IsComparedEnd old new failed (failures.Table failure) =
-    (failure ≡ reads.Run (runs.Refused refusals.OutOfMemory)) ⊎ ((failure ≡ reads.Run (runs.Refused refusals.SinkFailed)) × failed)
+abbrev pub IsComparedEnd : Table → Table → Type 0 → CommandFailure → Type 0
 IsComparedEnd old new failed (failures.Unlike why) = IsUnlike why old new
+IsComparedEnd old new failed failure = IsCutEnd failed failure

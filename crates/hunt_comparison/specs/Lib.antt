@@ -3,4 +3,3 @@ pub mod Text
 pub mod Status
 pub mod Unlikes
 pub mod Compares
-pub mod Failures

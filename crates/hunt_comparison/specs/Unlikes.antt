@@ -1,7 +1,7 @@
 -- Which tables can be compared.
 use Rattle.std.specs.Prelude.{◌≡◌, ◌≢◌, Option, Some, None}
-use Rattle.hunt_comparison.specs.declared.unlike.Unlike.{Unlike}
-use Rattle.hunt_comparison.specs.declared.unlike.Unlike.TheVariants.{Harts, Bytes}
+use Rattle.program_files.specs.declared.reasons.Unlike.{Unlike}
+use Rattle.program_files.specs.declared.reasons.Unlike.TheVariants.{Harts, Bytes}
 use Rattle.hunt_table.specs.Merging.{harts_of}
 use Rattle.hunt_table.specs.Ranges.{AreAlike}
 use Rattle.hunt_table.specs.declared.table.Table.{Table}

@@ -4,7 +4,6 @@ ghost use Rattle.hunt_comparison.specs.Compares.{AskedComparison, ComparedTables
 ghost use Rattle.hunt_comparison.specs.Status.{compare_status};
 ghost use Rattle.program_files.specs.Failures.{HasFailed};
 
-use crate::failure::CompareFailure;
 use crate::status::compare_status;
 use crate::twins::compare_rows;
 use crate::unlike::unlikeness;
@@ -12,7 +11,7 @@ use crate::writing::write_comparison;
 use command_line::Compare;
 use hunt_commands::read_table_of;
 use hunt_table::Table;
-use program_files::{ExitStatus, Files, Output};
+use program_files::{CommandFailure, ExitStatus, Files, Output};
 use std::alloc::Global;
 
 /// Compares the tables of two files, as of an old and of a new build of a program, and prints the endings that only one of them has, and those
@@ -20,14 +19,14 @@ use std::alloc::Global;
 ///
 /// # Errors
 ///
-/// `Table` where one can't be read, the old one before the new one; then `Unlike`; the refusal of memory at any time, and `Table` at last where
-/// the output can't be written.
+/// `File` and `NotATable` where one can't be read, the old one before the new one; then `Unlike`; the refusal of memory at any time, and
+/// `SinkFailed` at last.
 pub fn compare_command<F: Files, O: Output>(
     alloc: Global,
     files: &F,
     asked: &Compare<'_>,
     out: &mut O,
-) -> Result<ExitStatus, CompareFailure>
+) -> Result<ExitStatus, CommandFailure>
     // All that was printed is the comparison of the tables in the files, and the status is 0 where these have the same endings, and else 4.
     ensures compares { IfOk result (λ status.
         (a : AskedComparison (F.holds files.now) asked.now) ×
@@ -53,7 +52,7 @@ fn put_compared<O: Output>(
     old_table: &Table,
     new_table: &Table,
     out: &mut O,
-) -> Result<ExitStatus, CompareFailure>
+) -> Result<ExitStatus, CommandFailure>
     ensures compares { IfOk result (λ status. (c : ComparedTables old_table.now new_table.now) ×
         (O.took out.new ≡ O.took out.old ++ compared_text c) ×
         (status ≡ compare_status c.olds c.news)) }
@@ -64,7 +63,7 @@ fn put_compared<O: Output>(
         (HasFailed O.failures O.is_stuck out.old out.new)) }
 {
     if let Some(why) = unlikeness(old_table, new_table) {
-        return Err(CompareFailure::Unlike(why));
+        return Err(CommandFailure::Unlike(why));
     }
     let olds = compare_rows(alloc, &old_table.rows, &new_table.rows)?;
     let news = compare_rows(alloc, &new_table.rows, &old_table.rows)?;

@@ -3,15 +3,13 @@
 #![tactic(auto)]
 
 mod comparing;
-mod failure;
 mod status;
 mod twins;
 mod unlike;
 mod writing;
 
 pub use comparing::compare_command;
-pub use failure::CompareFailure;
 pub use status::compare_status;
 pub use twins::{Compared, Twin, compare_rows};
-pub use unlike::{Unlike, unlikeness};
+pub use unlike::unlikeness;
 pub use writing::write_comparison;

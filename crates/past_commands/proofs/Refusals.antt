@@ -2,11 +2,10 @@
 use Rattle.std.proofs.Common.{◌≡◌, ◌⊎◌, ◌<◌, ◌≤◌, ℕ, Err, IfErr, Ok, Result, ap, arith, inl, inr, refl, sym, ⊎_elim}
 use Rattle.host_io.specs.declared.error.RunError.{RunError}
 use Rattle.host_io.specs.declared.error.RunError.TheVariants as refusals
-use Rattle.past_commands.specs.Failures.{out_of_memory}
+use Rattle.program_files.specs.Failures.{out_of_memory}
 use Rattle.past_commands.specs.Refused.{IsAccepted, IsRefusal, IsRefusedRun}
-use Rattle.past_commands.specs.declared.failure.PastFailure.{PastFailure}
-use Rattle.past_commands.specs.declared.failure.PastFailure.TheVariants.{Run}
-use Rattle.program_files.specs.declared.failure.RunFailure.TheVariants as runs
+use Rattle.program_files.specs.declared.failure.CommandFailure.{CommandFailure}
+use Rattle.program_files.specs.declared.failure.CommandFailure.TheVariants.{Refused}
 use Rattle.recording.specs.Recorded.{Recorded}
 use Rattle.round_schedule.specs.Bounds.{AreNoWorkers, AreWorkers}
 use Rattle.replayer.specs.Refusals.{RefusedInOrder}
@@ -51,7 +50,7 @@ pub are_workers : {X : Type 0} (n : ℕ) (r : Recorded) (v : X) → RefusedInOrd
 are_workers n r v o = (omega (arith, λ (lt : n < 1). no_ok v refusals.WorkersOutOfRange (o.workers (inl lt))), omega (arith, λ (lt : 16 < n). no_ok v refusals.WorkersOutOfRange (o.workers (inr lt))))
 
 -- the failures
-pub refused_run : {X : Type 0} (n : ℕ) (r : Recorded) (e : RunError) (f : PastFailure) → f ≡ Run (runs.Refused e) → RefusedInOrder {X = X} n r (Err e) → IsRefusedRun n r f
+pub refused_run : {X : Type 0} (n : ℕ) (r : Recorded) (e : RunError) (f : CommandFailure) → f ≡ Refused e → RefusedInOrder {X = X} n r (Err e) → IsRefusedRun n r f
 refused_run n r e f is o = inr (e, is, refused_at n r e o)
 
 -- why a call was refused

@@ -1,4 +1,3 @@
-pub mod Failures
 pub mod Past
 pub mod Questions
 pub mod Answers
@@ -8,3 +7,4 @@ pub mod Replays
 pub mod Watched
 pub mod Watches
 pub mod Refused
+pub mod Failures

@@ -4,7 +4,6 @@
 mod answer;
 mod checked;
 mod executions;
-mod failure;
 mod files;
 mod looking;
 mod naming;
@@ -20,8 +19,7 @@ mod watched;
 mod watching;
 
 pub use answer::Answer;
-pub use executions::{execution_of, refuse_rounds, refuse_workers};
-pub use failure::PastFailure;
+pub use executions::{refuse_rounds, refuse_workers};
 pub use files::PastFiles;
 pub use naming::access_ranges;
 pub use past::{Past, read_past};

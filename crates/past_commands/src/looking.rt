@@ -7,15 +7,14 @@ ghost use Rattle.past_commands.specs.Refused.{EndsExecutionReplay, EndsSeeing};
 
 use crate::answer::{Answer, number_line, word_line};
 use crate::checked::check_answer;
-use crate::executions::{execution_of, refuse_rounds, refuse_workers};
-use crate::failure::PastFailure;
+use crate::executions::{refuse_rounds, refuse_workers};
 use command_line::Replay;
-use execution_commands::is_allowed;
+use execution_commands::{is_allowed, read_execution_text};
 use execution_file::ExecutionFile;
 use execution_scripts::{Before, Checked, HartStep, Moment, bytes_at, check_file, moment_of};
 use hunt_table::{SeenRange, add_ranges};
 use pages::OutOfMemory;
-use program_files::{ExitStatus, NamedBytes, named_bytes, seen_ranges};
+use program_files::{CommandFailure, ExitStatus, NamedBytes, named_bytes, seen_ranges};
 use report_lines::{Line, hart_lines};
 use std::alloc::Global;
 
@@ -25,11 +24,11 @@ pub(crate) fn replay_execution(
     alloc: Global,
     text: &[u8],
     asked: &Replay<'_>,
-) -> Result<Answer, PastFailure>
+) -> Result<Answer, CommandFailure>
     ensures answers { IfOk result (IsExecutionAnswer text.now asked.now) }
     ensures errors { IfErr result (EndsExecutionReplay text.now asked.now) }
 {
-    let file = execution_of(alloc, text)?;
+    let file = read_execution_text(alloc, text)?;
     refuse_rounds(asked.round.is_some())?;
     refuse_workers(asked.workers)?;
     let checked = check_file(alloc, &file, step_asked(asked.hart, asked.place))?;
@@ -55,7 +54,7 @@ fn answer_checked(
     file: &ExecutionFile,
     checked: &Checked,
     asked: &Replay<'_>,
-) -> Result<Answer, PastFailure>
+) -> Result<Answer, CommandFailure>
     ensures answers { IfOk result (IsCheckedAnswer (as_recorded file.now) asked.now checked.now) }
     ensures errors { IfErr result (EndsSeeing (as_recorded file.now) asked.now) }
 {
@@ -70,7 +69,7 @@ fn answer_checked(
         &asked.objects,
     )?;
     match fault {
-        Some(fault) => Err(PastFailure::Naming(fault)),
+        Some(fault) => Err(CommandFailure::Naming(fault)),
         None => {
             let ranges = seen_ranges(alloc, &bytes, &asked.objects)?;
             Ok(Answer {

@@ -4,22 +4,21 @@ ghost use Rattle.program_files.specs.Naming.{first_missing, objects_in};
 ghost use Rattle.past_commands.specs.Failures.{IsNotNamed, IsUnnamed};
 ghost use Rattle.past_commands.specs.Watches.{as_range, at_address, names_watched, watched_bytes};
 
-use crate::failure::PastFailure;
 use command_line::{Bytes, Watch};
 use pages::{OutOfMemory, Range};
-use program_files::{no_object, one_object};
+use program_files::{CommandFailure, no_object, one_object};
 use std::alloc::{AllocError, Global};
 
 /// The bytes that a line watches: those that it names by addresses, and those of objects of the image.
 ///
 /// # Errors
 ///
-/// `Naming` for the first name of no object, or of several, and `Run` for want of memory.
+/// `Naming` for the first name of no object, or of several, and the refusal of memory.
 pub(crate) fn watched_bytes(
     alloc: Global,
     image: &[u8],
     asked: &Watch<'_>,
-) -> Result<Vec<Bytes>, PastFailure>
+) -> Result<Vec<Bytes>, CommandFailure>
     ensures bytes { IfOk result (λ v. v.items ≡ watched_bytes image.now asked.now) }
     ensures named { IfOk result (λ _. first_missing image.now (names_watched asked.now) ≡ None) }
     ensures errors { IfErr result (IsUnnamed image.now (names_watched asked.now)) }
@@ -47,7 +46,7 @@ fn addressed(alloc: Global, asked: &Watch<'_>) -> Result<Vec<Bytes>, OutOfMemory
 }
 
 /// The bytes of the image's objects of these names.
-fn object_bytes(alloc: Global, image: &[u8], names: &[&str]) -> Result<Vec<Bytes>, PastFailure>
+fn object_bytes(alloc: Global, image: &[u8], names: &[&str]) -> Result<Vec<Bytes>, CommandFailure>
     ensures bytes { IfOk result (λ v. v.items ≡ objects_in image.now (map (λ s. s.now) names.now)) }
     ensures named { IfOk result (λ _. first_missing image.now (map (λ s. s.now) names.now) ≡ None) }
     ensures errors { IfErr result (IsUnnamed image.now (map (λ s. s.now) names.now)) }
@@ -67,12 +66,12 @@ fn object_bytes(alloc: Global, image: &[u8], names: &[&str]) -> Result<Vec<Bytes
 }
 
 /// The failure of a name of no object, or of several.
-fn unnamed(alloc: Global, image: &[u8], name: &str) -> PastFailure
+fn unnamed(alloc: Global, image: &[u8], name: &str) -> CommandFailure
     ensures { IsNotNamed image.now name.now result }
 {
     match no_object(alloc, image, name) {
-        Ok(fault) => PastFailure::Naming(fault),
-        Err(error) => PastFailure::from(error),
+        Ok(fault) => CommandFailure::Naming(fault),
+        Err(error) => CommandFailure::from(error),
     }
 }
 

@@ -1,11 +1,10 @@
 //! What is told of the bytes that a line names, once what it asked for is out.
 
-use crate::executions::execution_of;
-use crate::failure::PastFailure;
 use crate::naming::watched_bytes;
 use crate::past::Past;
 use command_line::{Bytes, Replay, Watch};
-use program_files::{Messages, is_in_memory, tell_of_decimals};
+use execution_commands::read_execution_text;
+use program_files::{CommandFailure, Messages, is_in_memory, tell_of_decimals};
 use std::alloc::Global;
 
 /// Says on standard error what is to be known of the bytes that were watched. It is no failure where there is no memory for that.
@@ -14,7 +13,7 @@ pub(crate) fn tell_of_watched<M: Messages>(
     past: &Past,
     asked: &Watch<'_>,
     messages: &M,
-) -> Result<(), PastFailure> {
+) -> Result<(), CommandFailure> {
     match past {
         Past::Recording(recorded) => {
             let named = watched_bytes(alloc, recorded.image(), asked)?;
@@ -22,7 +21,7 @@ pub(crate) fn tell_of_watched<M: Messages>(
             tell_of_decimals(messages, recorded.image(), recorded.is_flat(), &named);
         }
         Past::Execution(text) => {
-            let file = execution_of(alloc, text)?;
+            let file = read_execution_text(alloc, text)?;
             let named = watched_bytes(alloc, &file.image, asked)?;
             tell_of_bytes(messages, &named, file.pages);
             tell_of_decimals(messages, &file.image, file.flat, &named);
@@ -37,7 +36,7 @@ pub(crate) fn tell_of_seen<M: Messages>(
     past: &Past,
     asked: &Replay<'_>,
     messages: &M,
-) -> Result<(), PastFailure> {
+) -> Result<(), CommandFailure> {
     if asked.seen.is_empty() || asked.seen_is_unread {
         return Ok(());
     }
@@ -46,7 +45,7 @@ pub(crate) fn tell_of_seen<M: Messages>(
             tell_of_decimals(messages, recorded.image(), recorded.is_flat(), &asked.seen);
         }
         Past::Execution(text) => {
-            let file = execution_of(alloc, text)?;
+            let file = read_execution_text(alloc, text)?;
             tell_of_decimals(messages, &file.image, file.flat, &asked.seen);
         }
     }

@@ -2,10 +2,9 @@
 ghost use Rattle.std.specs.Prelude.{IfErr, IfOk};
 ghost use Rattle.past_commands.specs.Past.{EndsReading, HoldsPast};
 
-use crate::failure::PastFailure;
 use crate::files::PastFiles;
 use execution_commands::is_execution;
-use program_files::unreadable;
+use program_files::{CommandFailure, unreadable};
 use recording::{Recording, read_recording};
 use std::alloc::Global;
 
@@ -23,21 +22,21 @@ pub enum Past {
 ///
 /// # Errors
 ///
-/// `Run` where the file can't be read, for an execution that is too large, and for want of memory; `Unread` where the file begins as
-/// neither, or is no recording.
-pub fn read_past<F: PastFiles>(files: &F, alloc: Global, path: &str) -> Result<Past, PastFailure>
+/// `File` where it can't be read, or is an execution that is too large; `Unread` where it begins as neither, or is no recording; the refusal of
+/// memory.
+pub fn read_past<F: PastFiles>(files: &F, alloc: Global, path: &str) -> Result<Past, CommandFailure>
     ensures holds { IfOk result (HoldsPast (F.either files.now) path.now) }
     ensures errors { IfErr result (EndsReading (F.either files.now) (F.lacks files.now) path.now) }
 {
     let text = match files.read_either(path, b"RVDETREC", b"executio") {
         Ok(text) => text,
-        Err(fault) => return Err(PastFailure::Run(unreadable(alloc, path, fault))),
+        Err(fault) => return Err(unreadable(alloc, path, fault)),
     };
     if is_execution(&text) {
         return Ok(Past::Execution(text));
     }
     match read_recording(alloc, &text) {
         Ok(recorded) => Ok(Past::Recording(recorded)),
-        Err(error) => Err(PastFailure::Unread(error)),
+        Err(error) => Err(CommandFailure::Unread(error)),
     }
 }

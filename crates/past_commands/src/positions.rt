@@ -5,15 +5,15 @@ ghost use Rattle.past_commands.specs.Refused.{EndsExecutionWatch, EndsLooking};
 ghost use Rattle.past_commands.specs.Watches.{AreExecutionHits, IsCheckedWatch, IsExecutionWatch, event_there, pc_there};
 
 use crate::checked::check_answer;
-use crate::executions::{execution_of, refuse_some_rounds, refuse_workers};
-use crate::failure::PastFailure;
+use crate::executions::{refuse_some_rounds, refuse_workers};
 use crate::naming::{access_ranges, watched_bytes};
 use crate::watched::{Hits, Watched};
 use byte_sources::no_event;
 use command_line::Watch;
-use execution_commands::is_allowed;
+use execution_commands::{is_allowed, read_execution_text};
 use execution_file::ExecutionFile;
 use execution_scripts::{Checked, check_file, positions_sought};
+use program_files::CommandFailure;
 use round_schedule::Event;
 use std::alloc::{AllocError, Global};
 
@@ -23,11 +23,11 @@ pub(crate) fn watch_execution(
     alloc: Global,
     text: &[u8],
     asked: &Watch<'_>,
-) -> Result<Watched, PastFailure>
+) -> Result<Watched, CommandFailure>
     ensures watches { IfOk result (IsExecutionWatch text.now asked.now) }
     ensures errors { IfErr result (EndsExecutionWatch text.now asked.now) }
 {
-    let file = execution_of(alloc, text)?;
+    let file = read_execution_text(alloc, text)?;
     refuse_some_rounds(asked.from, asked.to)?;
     refuse_workers(asked.workers)?;
     let checked = check_file(alloc, &file, None)?;
@@ -40,7 +40,7 @@ fn watch_checked(
     file: &ExecutionFile,
     checked: &Checked,
     asked: &Watch<'_>,
-) -> Result<Watched, PastFailure>
+) -> Result<Watched, CommandFailure>
     ensures watches { IfOk result (IsCheckedWatch (as_recorded file.now) asked.now checked.now) }
     ensures errors { IfErr result (EndsLooking (as_recorded file.now) asked.now) }
 {

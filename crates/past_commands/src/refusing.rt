@@ -1,8 +1,7 @@
 ghost use Rattle.past_commands.specs.Refused.{IsRefusedFor};
 
-use crate::failure::PastFailure;
 use machine::Unobserved;
-use program_files::NamingFault;
+use program_files::{CommandFailure, NamingFault};
 use recording::Recording;
 use replayer::{Rounds, watch_rounds};
 use std::alloc::Global;
@@ -16,7 +15,7 @@ pub(crate) fn refused_for<R: Threads + Wait + Sync>(
     recorded: &Recording,
     workers: u32,
     fault: NamingFault,
-) -> PastFailure
+) -> CommandFailure
     ensures { IsRefusedFor fault workers recorded.now result }
 {
     let no_rounds = Rounds { first: 0, last: 0 };
@@ -29,7 +28,7 @@ pub(crate) fn refused_for<R: Threads + Wait + Sync>(
         workers,
         &mut Unobserved,
     ) {
-        Ok(_) => PastFailure::Naming(fault),
-        Err(error) => PastFailure::from(error),
+        Ok(_) => CommandFailure::Naming(fault),
+        Err(error) => CommandFailure::from(error),
     }
 }

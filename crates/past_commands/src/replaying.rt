@@ -1,14 +1,12 @@
 //! The command `replay`.
 ghost use Rattle.std.specs.Prelude.{◌≡◌, ◌⊎◌, ◌++◌, IfErr, IfOk, OnErr};
 ghost use Rattle.host_io.specs.Taken.{BeganText};
-ghost use Rattle.program_files.specs.Failures.{HasFailed, IsUnprinted};
-ghost use Rattle.past_commands.specs.Failures.{failure_number};
+ghost use Rattle.program_files.specs.Failures.{HasFailed, IsOutput, IsUnprinted, failure_number};
 ghost use Rattle.past_commands.specs.Questions.{question_of};
-ghost use Rattle.past_commands.specs.Refused.{EndsReplay, EndsReplayOf, EndsReplaying, IsOutput, IsRefusedRun};
+ghost use Rattle.past_commands.specs.Refused.{EndsReplay, EndsReplayOf, EndsReplaying, IsRefusedRun};
 ghost use Rattle.past_commands.specs.Replays.{AskedReplay, IsHartAnswer, IsRecordingAnswer, IsReplayAnswer, IsVerdictAnswer};
 
 use crate::answer::{Answer, verdict_answer};
-use crate::failure::PastFailure;
 use crate::files::PastFiles;
 use crate::looking::replay_execution;
 use crate::noting::tell_of_seen;
@@ -20,7 +18,8 @@ use command_line::Replay;
 use host_io::put_all;
 use machine::Observer;
 use program_files::{
-    ExitStatus, Messages, NamedBytes, Output, ProgressLine, named_bytes, seen_ranges,
+    CommandFailure, ExitStatus, Messages, NamedBytes, Output, ProgressLine, named_bytes,
+    seen_ranges,
 };
 use recording::Recording;
 use replayer::replay_observed;
@@ -33,9 +32,9 @@ use std::thread::Threads;
 ///
 /// # Errors
 ///
-/// `Run` where the file can't be read, the output can't be written or memory is refused, and for the refusals of the run; `Unread` and
-/// `NoExecution` where the file is no recording, or no execution; `NoRounds` where an execution is asked about rounds; then `Naming` for
-/// bytes that can't be looked at.
+/// `File` where it can't be read; the refusals of the run; `Unread` and `NoExecution` where the file is no recording, or no execution;
+/// `NoRounds` where an execution is asked about rounds; then `Naming` for bytes that can't be looked at; `SinkFailed`; the refusal of memory at
+/// any time.
 pub fn replay_command<
     F: PastFiles,
     O: Output,
@@ -50,7 +49,7 @@ pub fn replay_command<
     progress: &mut P,
     out: &mut O,
     messages: &M,
-) -> Result<ExitStatus, PastFailure>
+) -> Result<ExitStatus, CommandFailure>
     // All that was printed is the answer to what the line asks of what the file holds, and the status is that of this answer.
     ensures answers { IfOk result (λ status. (a : AskedReplay (F.either files.now) asked.now) ×
         (O.took out.new ≡ O.took out.old ++ a.answer.text) × O.is_out out.new ×
@@ -78,7 +77,7 @@ pub fn replay_command<
 }
 
 /// Prints an answer and hands it on, and gives its status.
-fn print_answer<O: Output>(answer: &Answer, out: &mut O) -> Result<ExitStatus, PastFailure>
+fn print_answer<O: Output>(answer: &Answer, out: &mut O) -> Result<ExitStatus, CommandFailure>
     ensures printed { IfOk result (λ status. (O.took out.new ≡ O.took out.old ++ answer.now.text) ×
         O.is_out out.new × (status ≡ answer.now.status)) }
     ensures begun { OnErr result (BeganText (O.took out.old) (O.took out.new) answer.now.text) }
@@ -96,7 +95,7 @@ fn replay_past<P: Observer + ProgressLine, R: Threads + Wait + Sync>(
     past: &Past,
     asked: &Replay<'_>,
     progress: &mut P,
-) -> Result<Answer, PastFailure>
+) -> Result<Answer, CommandFailure>
     ensures answers { IfOk result (IsReplayAnswer past.now asked.now) }
     ensures errors { IfErr result (EndsReplayOf past.now asked.now) }
 {
@@ -113,7 +112,7 @@ fn replay_recording<P: Observer + ProgressLine, R: Threads + Wait + Sync>(
     recorded: &Recording,
     asked: &Replay<'_>,
     progress: &mut P,
-) -> Result<Answer, PastFailure>
+) -> Result<Answer, CommandFailure>
     ensures answers { IfOk result (IsRecordingAnswer recorded.now asked.now) }
     ensures errors { IfErr result (EndsReplaying recorded.now asked.now) }
 {
@@ -130,7 +129,7 @@ fn replay_whole<P: Observer + ProgressLine, R: Threads + Wait + Sync>(
     recorded: &Recording,
     workers: u32,
     progress: &mut P,
-) -> Result<Answer, PastFailure>
+) -> Result<Answer, CommandFailure>
     ensures answers { IfOk result (IsVerdictAnswer workers recorded.now) }
     ensures errors { IfErr result (IsRefusedRun workers recorded.now) }
 {
@@ -148,7 +147,7 @@ fn answer_question<R: Threads + Wait + Sync>(
     recorded: &Recording,
     question: Question,
     asked: &Replay<'_>,
-) -> Result<Answer, PastFailure>
+) -> Result<Answer, CommandFailure>
     ensures answers { IfOk result (IsHartAnswer question recorded.now asked.now) }
     ensures errors { IfErr result (EndsReplaying recorded.now asked.now) }
 {

@@ -1,16 +1,14 @@
 //! The command `watch`.
 ghost use Rattle.std.specs.Prelude.{◌≡◌, ◌⊎◌, ◌++◌, IfErr, IfOk, OnErr};
 ghost use Rattle.host_io.specs.Taken.{BeganText};
-ghost use Rattle.program_files.specs.Failures.{HasFailed, IsUnprinted};
-ghost use Rattle.past_commands.specs.Failures.{failure_number, out_of_memory};
-ghost use Rattle.past_commands.specs.Refused.{EndsWatch, EndsWatchOf, EndsWatching, IsOutput, IsRefusal, IsRefusedRun};
+ghost use Rattle.program_files.specs.Failures.{HasFailed, IsOutput, IsUnprinted, failure_number, out_of_memory};
+ghost use Rattle.past_commands.specs.Refused.{EndsWatch, EndsWatchOf, EndsWatching, IsRefusal, IsRefusedRun};
 ghost use Rattle.past_commands.specs.Watched.{watched_status, watched_text};
 ghost use Rattle.past_commands.specs.Watches.{AreRunHits, AskedWatch, IsRecordingWatch, IsWatch, pcs_told};
 ghost use Rattle.round_planner.specs.Quotas.{Planned};
 ghost use Rattle.round_schedule.specs.Bounds.{AreWorkers};
 ghost use Rattle.replayer.specs.Replayed.{IsPlanFor, start_of};
 
-use crate::failure::PastFailure;
 use crate::files::PastFiles;
 use crate::naming::{access_ranges, watched_bytes};
 use crate::noting::tell_of_watched;
@@ -21,7 +19,7 @@ use crate::watched::{Hits, Watched, print_watched};
 use command_line::{Bytes, Watch};
 use host_io::RunError;
 use machine::Observer;
-use program_files::{ExitStatus, Messages, Output, ProgressLine};
+use program_files::{CommandFailure, ExitStatus, Messages, Output, ProgressLine};
 use recording::Recording;
 use replayer::{Hit, Rounds, choose, pcs_before, watch_rounds};
 use std::alloc::Global;
@@ -33,9 +31,8 @@ use std::thread::Threads;
 ///
 /// # Errors
 ///
-/// `Run` where the file can't be read, the output can't be written or memory is refused, and for the refusals of the run; `Unread` and
-/// `NoExecution` where the file is no recording, or no execution; `NoRounds` where an execution is asked about rounds; then `Naming` for
-/// a name of no object.
+/// `File` where it can't be read; the refusals of the run; `Unread` and `NoExecution` where the file is no recording, or no execution;
+/// `NoRounds` where an execution is asked about rounds; then `Naming` for a name of no object; `SinkFailed`; the refusal of memory at any time.
 pub fn watch_command<
     F: PastFiles,
     O: Output,
@@ -50,7 +47,7 @@ pub fn watch_command<
     progress: &mut P,
     out: &mut O,
     messages: &M,
-) -> Result<ExitStatus, PastFailure>
+) -> Result<ExitStatus, CommandFailure>
     // All that was printed are the hits that the line asks for, or why RVWMO doesn't allow the execution, and the status is that of this.
     ensures watches { IfOk result (λ status. (a : AskedWatch (F.either files.now) asked.now) ×
         (O.took out.new ≡ O.took out.old ++ watched_text a.watched) × O.is_out out.new ×
@@ -82,7 +79,7 @@ fn hand_on_watched<O: Output>(
     alloc: Global,
     watched: &Watched,
     out: &mut O,
-) -> Result<ExitStatus, PastFailure>
+) -> Result<ExitStatus, CommandFailure>
     ensures printed { IfOk result (λ status.
         (O.took out.new ≡ O.took out.old ++ watched_text watched.now) ×
         O.is_out out.new × (status ≡ watched_status watched.now)) }
@@ -103,7 +100,7 @@ fn watch_past<P: Observer + ProgressLine, R: Threads + Wait + Sync>(
     past: &Past,
     asked: &Watch<'_>,
     progress: &mut P,
-) -> Result<Watched, PastFailure>
+) -> Result<Watched, CommandFailure>
     ensures watches { IfOk result (IsWatch past.now asked.now) }
     ensures errors { IfErr result (EndsWatchOf past.now asked.now) }
 {
@@ -120,13 +117,13 @@ fn watch_recording<P: Observer + ProgressLine, R: Threads + Wait + Sync>(
     recorded: &Recording,
     asked: &Watch<'_>,
     progress: &mut P,
-) -> Result<Watched, PastFailure>
+) -> Result<Watched, CommandFailure>
     ensures watches { IfOk result (IsRecordingWatch recorded.now asked.now) }
     ensures errors { IfErr result (EndsWatching recorded.now asked.now) }
 {
     let named = match watched_bytes(alloc, recorded.image(), asked) {
         Ok(named) => named,
-        Err(PastFailure::Naming(fault)) => {
+        Err(CommandFailure::Naming(fault)) => {
             return Err(refused_for(threads, alloc, recorded, asked.workers, fault));
         }
         Err(failure) => return Err(failure),
@@ -143,7 +140,7 @@ fn watch_bytes<P: Observer + ProgressLine, R: Threads + Wait + Sync>(
     named: &[Bytes],
     asked: &Watch<'_>,
     progress: &mut P,
-) -> Result<Hits, PastFailure>
+) -> Result<Hits, CommandFailure>
     ensures hits { IfOk result (λ hits. (plan : Planned) × IsPlanFor recorded.now plan ×
         AreRunHits asked.now named.now recorded.now (start_of recorded.now plan) hits) }
     ensures workers { IfOk result (λ _. AreWorkers asked.now.workers) }
@@ -171,7 +168,7 @@ fn watch_bytes<P: Observer + ProgressLine, R: Threads + Wait + Sync>(
         Ok(pcs) => Ok(Hits { events, pcs }),
         Err(refused) => {
             drop(events);
-            Err(PastFailure::from(refused))
+            Err(CommandFailure::from(refused))
         }
     }
 }

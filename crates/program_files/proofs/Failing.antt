@@ -8,33 +8,32 @@ use Rattle.host_io.specs.declared.error.RunError.TheVariants as refusals
 use Rattle.program_files.proofs.Told.{on_error}
 use Rattle.program_files.specs.Asked.{RefusedSetRun}
 use Rattle.program_files.specs.Failures.{HasFailed, IsCutOff, IsFileFailure, TellsFault}
-use Rattle.program_files.specs.declared.failure.RunFailure.{RunFailure}
-use Rattle.program_files.specs.declared.failure.RunFailure.TheVariants.{File, NoSpurious, Plan, Refused}
+use Rattle.program_files.specs.declared.failure.CommandFailure.{CommandFailure}
+use Rattle.program_files.specs.declared.failure.CommandFailure.TheVariants as failures
 use Rattle.program_files.specs.declared.files.FileFault.{FileFault}
 
 -- ---- files
 
 -- a file couldn't be read, and that is told
-pub unread : (lacks : List ℕ → FileFault → Type 0) (path : List ℕ) (fault : FileFault) (f : RunFailure) → lacks path fault → TellsFault path fault f →
+pub unread : (lacks : List ℕ → FileFault → Type 0) (path : List ℕ) (fault : FileFault) (f : CommandFailure) → lacks path fault → TellsFault path fault f →
     IsFileFailure lacks (λ named. named ≡ path) ⊥ f
-unread lacks path fault (Refused error) lack told = told
-unread lacks path fault (Plan error line) lack told = told
-unread lacks path fault NoSpurious lack told = told
-unread lacks path fault (File text cause) lack told =
+unread lacks path fault (failures.Refused error) lack told = told
+unread lacks path fault (failures.File text cause) lack told =
     (told.0, subst (λ (p : List ℕ). lacks p cause) (sym told.0) (subst (λ (c : FileFault). lacks path c) (sym told.1) lack))
+unread lacks path fault _ lack told = absurd told
 
 -- the file is one of more that are named, and the image is without the object where it was so before
-pub named_too : (lacks : List ℕ → FileFault → Type 0) (is_one is_other : List ℕ → Type 0) (one other : Type 0) (f : RunFailure) →
+pub named_too : (lacks : List ℕ → FileFault → Type 0) (is_one is_other : List ℕ → Type 0) (one other : Type 0) (f : CommandFailure) →
     ((path : List ℕ) → is_one path → is_other path) → (one → other) → IsFileFailure lacks is_one one f → IsFileFailure lacks is_other other f
-named_too lacks is_one is_other one other (Refused error) more without h = h
-named_too lacks is_one is_other one other (Plan error line) more without h = h
-named_too lacks is_one is_other one other (File text fault) more without h = (more (string_bytes text) h.0, h.1)
-named_too lacks is_one is_other one other NoSpurious more without h = without h
+named_too lacks is_one is_other one other (failures.Refused error) more without h = h
+named_too lacks is_one is_other one other (failures.File text fault) more without h = (more (string_bytes text) h.0, h.1)
+named_too lacks is_one is_other one other failures.NoSpurious more without h = without h
+named_too lacks is_one is_other one other _ more without h = absurd h
 
 -- ---- outputs
 
 -- a run that is refused, as is told of another output
-pub failed_too : {failed other : Type 0} (program : Program) (text : List ℕ) (budget : ℕ) (image : List ℕ) (f : RunFailure) → (failed → other) →
+pub failed_too : {failed other : Type 0} (program : Program) (text : List ℕ) (budget : ℕ) (image : List ℕ) (f : CommandFailure) → (failed → other) →
     RefusedSetRun program text budget image failed f → RefusedSetRun program text budget image other f
 failed_too program text budget image f more r = record {
   settings = r.settings;

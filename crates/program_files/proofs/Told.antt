@@ -7,7 +7,7 @@ use Rattle.round_planner.specs.Settings.{IsReason, RefusedInOrder, settings_faul
 use Rattle.round_planner.specs.declared.settings.Settings.{Settings}
 use Rattle.program_files.specs.Asked.{HasSettings, RefusedSetRun}
 use Rattle.program_files.specs.Failures.{IsTold}
-use Rattle.program_files.specs.declared.failure.RunFailure.{RunFailure}
+use Rattle.program_files.specs.declared.failure.CommandFailure.{CommandFailure}
 
 -- by what a value has, what it has besides
 pub on_value : {X E : Type 0} (r : Result X E) (P Q : X → Type 0) → ((x : X) → P x → Q x) → IfOk r P → IfOk r Q
@@ -27,19 +27,19 @@ where_refused (Ok v) P Q f h = tt
 where_refused (Err e) P Q f h = f h
 
 -- an answer stays
-pub told_value : {X : Type 0} (a : Result X RunError) (b : Result X RunFailure) (P : X → Type 0) → IsTold a b → IfOk a P → IfOk b P
+pub told_value : {X : Type 0} (a : Result X RunError) (b : Result X CommandFailure) (P : X → Type 0) → IsTold a b → IfOk a P → IfOk b P
 told_value (Ok v) (Ok w) P e h = subst P (sym e) h
 told_value (Ok v) (Err f) P e h = absurd e
 told_value (Err e) (Ok w) P q h = absurd q
 told_value (Err e) (Err f) P q h = tt
 
-pub told_done : {X : Type 0} (a : Result X RunError) (b : Result X RunFailure) (P : Type 0) → IsTold a b → OnOk a P → OnOk b P
+pub told_done : {X : Type 0} (a : Result X RunError) (b : Result X CommandFailure) (P : Type 0) → IsTold a b → OnOk a P → OnOk b P
 told_done (Ok v) (Ok w) P e h = h
 told_done (Ok v) (Err f) P e h = absurd e
 told_done (Err e) (Ok w) P q h = absurd q
 told_done (Err e) (Err f) P q h = tt
 
-pub told_refused : {X : Type 0} (a : Result X RunError) (b : Result X RunFailure) (P : Type 0) → IsTold a b → OnErr a P → OnErr b P
+pub told_refused : {X : Type 0} (a : Result X RunError) (b : Result X CommandFailure) (P : Type 0) → IsTold a b → OnErr a P → OnErr b P
 told_refused (Ok v) (Ok w) P e h = tt
 told_refused (Ok v) (Err f) P e h = absurd e
 told_refused (Err e) (Ok w) P q h = absurd q
@@ -60,7 +60,7 @@ in_order_at s image e o = record {
 }
 
 -- a refusal that is told is that of the run
-pub told_refusal : {X : Type 0} (failed : Type 0) (program : Program) (text : List ℕ) (budget : ℕ) (image : List ℕ) (s : Settings) (a : Result X RunError) (b : Result X RunFailure) →
+pub told_refusal : {X : Type 0} (failed : Type 0) (program : Program) (text : List ℕ) (budget : ℕ) (image : List ℕ) (s : Settings) (a : Result X RunError) (b : Result X CommandFailure) →
     HasSettings program text budget s → IsTold a b → RefusedInOrder s image a →
     (settings_fault s ≡ None → IfErr a (λ e. IsReason s image e ⊎ ((e ≡ refusals.SinkFailed) × failed))) → IfErr b (RefusedSetRun program text budget image failed)
 told_refusal failed program text budget image s (Ok v) (Ok w) set e order errors = tt

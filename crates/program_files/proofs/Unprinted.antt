@@ -4,8 +4,8 @@ use Rattle.host_io.specs.RunErrors.{number_of}
 use Rattle.host_io.specs.Writes.{WritesAnswer}
 use Rattle.host_io.specs.declared.error.RunError.{RunError}
 use Rattle.program_files.specs.Failures.{IsTold, IsUnprinted, failure_number}
-use Rattle.program_files.specs.declared.failure.RunFailure.{RunFailure}
-use Rattle.program_files.specs.declared.failure.RunFailure.TheVariants.{File, NoSpurious, Plan, Refused}
+use Rattle.program_files.specs.declared.failure.CommandFailure.{CommandFailure}
+use Rattle.program_files.specs.declared.failure.CommandFailure.TheVariants as failures
 
 -- by the numbers of the call's own refusals
 pub unprinted : {S A E : Type 0} {took : S → List ℕ} {failures : S → ℕ} {IsText : A → List ℕ → Type 0} {IsReason : E → Type 0} {old new : S} (number : E → ℕ) (memory sink : E) (r : Result A E) →
@@ -19,12 +19,11 @@ pub at_err : {X E : Type 0} (r : Result X E) (e : E) (P : E → Type 0) → r �
 at_err r e P is h = subst (λ x. IfErr x P) is h
 
 -- a refusal that is told is that of the run
-pub told_unprinted : {X : Type 0} (a : Result X RunError) (b : Result X RunFailure) (old new : List ℕ) → IsTold a b →
+pub told_unprinted : {X : Type 0} (a : Result X RunError) (b : Result X CommandFailure) (old new : List ℕ) → IsTold a b →
     IfErr a (λ e. IsUnprinted (number_of e) old new) → IfErr b (λ f. IsUnprinted (failure_number f) old new)
 told_unprinted (Ok v) (Ok w) old new e h = tt
 told_unprinted (Ok v) (Err f) old new e h = absurd e
 told_unprinted (Err e) (Ok w) old new q h = absurd q
-told_unprinted (Err e) (Err (Refused d)) old new q h = subst (λ (x : RunError). IsUnprinted (number_of x) old new) (sym q) h
-told_unprinted (Err e) (Err (Plan d line)) old new q h = subst (λ (x : RunError). IsUnprinted (number_of x) old new) (sym q) h
-told_unprinted (Err e) (Err (File path fault)) old new q h = absurd q
-told_unprinted (Err e) (Err NoSpurious) old new q h = absurd q
+told_unprinted (Err e) (Err (failures.Refused d)) old new q h = subst (λ (x : RunError). IsUnprinted (number_of x) old new) (sym q) h
+told_unprinted (Err e) (Err (failures.Plan d line)) old new q h = subst (λ (x : RunError). IsUnprinted (number_of x) old new) (sym q) h
+told_unprinted (Err e) (Err _) old new q h = absurd q

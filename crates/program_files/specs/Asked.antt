@@ -11,11 +11,10 @@ use Rattle.round_planner.specs.Settings.{IsPlan, IsReason, RefusedInOrder, setti
 use Rattle.round_planner.specs.declared.settings.Format.TheVariants.{Elf, Flat}
 use Rattle.round_planner.specs.declared.settings.Settings.{Settings}
 use Rattle.round_planner.specs.Families.{family_plan}
-use Rattle.program_files.specs.Failures.{IsFileFailure, Tells}
+use Rattle.program_files.specs.Failures.{IsFileFailure, IsOutput, Tells}
 use Rattle.program_files.specs.declared.files.FileFault.{FileFault}
 use Rattle.program_files.specs.Spurious.{AllowsSpurious, spurious_place}
-use Rattle.program_files.specs.declared.failure.RunFailure.{RunFailure}
-use Rattle.program_files.specs.declared.failure.RunFailure.TheVariants.{Refused}
+use Rattle.program_files.specs.declared.failure.CommandFailure.{CommandFailure}
 use Rattle.round_planner.specs.PlanText.{ReadsAs}
 use Rattle.round_planner.specs.Quotas.{Planned}
 
@@ -111,7 +110,7 @@ pub record AskedRun (holds : List ℕ → List ℕ → Type 0) (begins : List �
   pub made : SetRun run.program text budget
 
 -- a run of a program by a plan, and that it is refused, or the output can't be written
-pub record RefusedSetRun (program : Program) (text : List ℕ) (budget : ℕ) (image : List ℕ) (failed : Type 0) (f : RunFailure) : Type 0 where
+pub record RefusedSetRun (program : Program) (text : List ℕ) (budget : ℕ) (image : List ℕ) (failed : Type 0) (f : CommandFailure) : Type 0 where
   pub settings : Settings
   pub error : RunError
   pub set : HasSettings program text budget settings
@@ -120,7 +119,7 @@ pub record RefusedSetRun (program : Program) (text : List ℕ) (budget : ℕ) (i
   pub reason : settings_fault settings ≡ None → IsReason settings image error ⊎ ((error ≡ refusals.SinkFailed) × failed)
 
 -- the run that a line asks for is refused: for settings that are out of range, then for the image, then for the plan, or for want of memory
-pub record RefusedRun (holds : List ℕ → List ℕ → Type 0) (begins : List ℕ → ℕ → List ℕ → Type 0) (run : Run) (failed : Type 0) (f : RunFailure) : Type 0 where
+pub record RefusedRun (holds : List ℕ → List ℕ → Type 0) (begins : List ℕ → ℕ → List ℕ → Type 0) (run : Run) (failed : Type 0) (f : CommandFailure) : Type 0 where
   pub image : List ℕ
   pub input : List ℕ
   pub text : List ℕ
@@ -130,6 +129,6 @@ pub record RefusedRun (holds : List ℕ → List ℕ → Type 0) (begins : List 
 
 -- why a command on a run ends without what it was asked for: a file of the line couldn't be read or lacks what is asked for, the output failed, or
 -- the run is refused
-abbrev pub EndsFor : (List ℕ → List ℕ → Type 0) → (List ℕ → ℕ → List ℕ → Type 0) → (List ℕ → FileFault → Type 0) → Run → Type 0 → RunFailure → Type 0
+abbrev pub EndsFor : (List ℕ → List ℕ → Type 0) → (List ℕ → ℕ → List ℕ → Type 0) → (List ℕ → FileFault → Type 0) → Run → Type 0 → CommandFailure → Type 0
 EndsFor holds begins lacks run failed f =
-    IsFileFailure lacks (IsFileOfRun run) (LacksSpurious holds begins run.program) f ⊎ ((f ≡ Refused refusals.SinkFailed) × failed) ⊎ RefusedRun holds begins run failed f
+    IsFileFailure lacks (IsFileOfRun run) (LacksSpurious holds begins run.program) f ⊎ IsOutput failed f ⊎ RefusedRun holds begins run failed f

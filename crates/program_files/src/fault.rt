@@ -32,32 +32,25 @@ impl Display for NamingFault {
     fn fmt<W: Write>(&self, f: &mut Formatter<W>) -> Result<(), fmt::Error> {
         match self {
             NamingFault::Outside => {
-                write!(
-                    f,
-                    "a range of bytes that is to be seen is empty, or isn't all in guest memory"
+                f.write_str(
+                    "a range of bytes that is to be seen is empty, or isn't all in guest memory",
                 )
-            }
-            NamingFault::NoObject(name, others) if others.is_empty() => {
-                write!(f, "the image's symbol table has no object {name}")
             }
             NamingFault::NoObject(name, others) => {
-                write!(
-                    f,
-                    "the image's symbol table has no object {name}, but {others}"
-                )
+                write!(f, "the image's symbol table has no object {name}")?;
+                if !others.is_empty() {
+                    write!(f, ", but {others}")?;
+                }
+                Ok(())
             }
-            NamingFault::Several(name) => {
-                write!(
-                    f,
-                    "the image's symbol table has several objects {name}: give the address and length of one by --see"
-                )
-            }
-            NamingFault::NoSymbols(name) => {
-                write!(
-                    f,
-                    "the image has no symbol table, which would say where {name} is"
-                )
-            }
+            NamingFault::Several(name) => write!(
+                f,
+                "the image's symbol table has several objects {name}: give the address and length of one by --see"
+            ),
+            NamingFault::NoSymbols(name) => write!(
+                f,
+                "the image has no symbol table, which would say where {name} is"
+            ),
         }
     }
 }

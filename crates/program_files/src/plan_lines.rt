@@ -4,6 +4,7 @@ use round_planner::{Plan, PlanError};
 use round_schedule::MOST_HARTS;
 use std::alloc::Global;
 use std::fmt::{self, Display, Formatter, Write};
+use thiserror::Error;
 
 /// The first bad line of a plan.
 #[derive(Clone, Copy, Drop)]
@@ -15,34 +16,29 @@ pub struct BadLine {
 }
 
 /// What is often wrong with a line of a plan.
-#[derive(Clone, Copy, Drop)]
+#[derive(Clone, Copy, Debug, PartialEq, Eq, Error)]
 pub enum LineFault {
     /// It is the last one, and has no end.
+    #[error("has no line feed at its end")]
     NoLineFeed,
     /// It ends in two bytes, as lines do that Windows writes.
+    #[error("ends in a carriage return and a line feed")]
     CarriageReturn,
     /// It has a space where no number is before it or after it, or a tab.
+    #[error("has a space or a tab where none belongs")]
     Blank,
     /// There is nothing in it.
+    #[error("is empty")]
     Empty,
     /// Anything else.
+    #[error("is the first such line")]
     Other,
 }
 
 impl Display for BadLine {
     fn fmt<W: Write>(&self, f: &mut Formatter<W>) -> Result<(), fmt::Error> {
-        let number = self.number;
-        match self.fault {
-            LineFault::NoLineFeed => write!(f, "line {number} has no line feed at its end"),
-            LineFault::CarriageReturn => {
-                write!(f, "line {number} ends in a carriage return and a line feed")
-            }
-            LineFault::Blank => {
-                write!(f, "line {number} has a space or a tab where none belongs")
-            }
-            LineFault::Empty => write!(f, "line {number} is empty"),
-            LineFault::Other => write!(f, "line {number} is the first such line"),
-        }
+        let BadLine { number, fault } = self;
+        write!(f, "line {number} {fault}")
     }
 }
 

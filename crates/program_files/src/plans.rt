@@ -3,7 +3,7 @@ ghost use Rattle.std.specs.Prelude.{◌≡◌, ◌≤◌, ◌++◌, ◌∷◌, [
 ghost use Rattle.program_files.specs.Asked.{IsFamilyPlan, IsFileOfPlan, IsPlanChosen};
 ghost use Rattle.program_files.specs.Failures.{IsFileFailure, IsTold};
 
-use crate::failure::RunFailure;
+use crate::failure::CommandFailure;
 use crate::files::Files;
 use crate::plan_lines::bad_line;
 use crate::reading::read_file;
@@ -35,7 +35,7 @@ pub fn plan_of<F: Files>(
     alloc: Global,
     choice: &PlanChoice<'_>,
     harts: u32,
-) -> Result<AskedPlan, RunFailure>
+) -> Result<AskedPlan, CommandFailure>
     ensures plan { IfOk result (λ plan.
         IsPlanChosen (F.holds files.now) choice.now harts plan.text.items plan.budget) }
     ensures errors { IfErr result (IsFileFailure (F.lacks files.now) (IsFileOfPlan choice.now) ⊥) }
@@ -66,7 +66,7 @@ impl AskedPlan {
         alloc: Global,
         harts: u32,
         answer: Result<T, RunError>,
-    ) -> Result<T, RunFailure>
+    ) -> Result<T, CommandFailure>
         ensures { IsTold answer result }
     {
         let error = match answer {
@@ -75,10 +75,10 @@ impl AskedPlan {
         };
         if let (RunError::Plan(cause), true) = (error, self.is_file) {
             if let Some(line) = bad_line(alloc, &self.text, harts, cause) {
-                return Err(RunFailure::Plan(error, line));
+                return Err(CommandFailure::Plan(error, line));
             }
         }
-        Err(RunFailure::Refused(error))
+        Err(CommandFailure::Refused(error))
     }
 }
 

@@ -3,7 +3,7 @@ ghost use Rattle.std.specs.Prelude.{◌≡◌, IfErr, IfOk};
 ghost use Rattle.program_files.specs.Asked.{IsFileOfProgram, IsImageFile, IsImageOf, IsProgramOf, LacksSpurious};
 ghost use Rattle.program_files.specs.Failures.{IsFileFailure, TellsFault};
 
-use crate::failure::RunFailure;
+use crate::failure::CommandFailure;
 use crate::files::{FileFault, Files};
 use crate::spurious::allow_spurious;
 use command_line::Program;
@@ -19,7 +19,7 @@ const MOST_OF_FLAT: u64 = MOST_PAGES as u64 * 4096 + 1;
 /// # Errors
 ///
 /// `File` where it can't be read, and `OutOfMemory`.
-pub fn read_file<F: Files>(files: &F, alloc: Global, path: &str) -> Result<Vec<u8>, RunFailure>
+pub fn read_file<F: Files>(files: &F, alloc: Global, path: &str) -> Result<Vec<u8>, CommandFailure>
     ensures holds { IfOk result (λ bytes. F.holds files.now path.now bytes.items) }
     ensures errors { IfErr result (IsFileFailure (F.lacks files.now)
         (λ named. named ≡ path.now) ⊥) }
@@ -31,12 +31,12 @@ pub fn read_file<F: Files>(files: &F, alloc: Global, path: &str) -> Result<Vec<u
 }
 
 /// The failure of a file that can't be read.
-pub fn unreadable(alloc: Global, path: &str, fault: FileFault) -> RunFailure
+pub fn unreadable(alloc: Global, path: &str, fault: FileFault) -> CommandFailure
     ensures { TellsFault path.now fault result }
 {
     match (fault, String::from_str(alloc, path)) {
-        (FileFault::OutOfMemory, _) | (_, Err(_)) => RunFailure::Refused(RunError::OutOfMemory),
-        (fault, Ok(path)) => RunFailure::File(path, fault),
+        (FileFault::OutOfMemory, _) | (_, Err(_)) => CommandFailure::Refused(RunError::OutOfMemory),
+        (fault, Ok(path)) => CommandFailure::File(path, fault),
     }
 }
 
@@ -59,7 +59,7 @@ pub fn read_program<F: Files>(
     files: &F,
     alloc: Global,
     program: &Program<'_>,
-) -> Result<ProgramFiles, RunFailure>
+) -> Result<ProgramFiles, CommandFailure>
     ensures program { IfOk result (λ p.
         IsProgramOf (F.holds files.now) (F.begins files.now) program.now
         p.image.items p.input.items) }
@@ -79,7 +79,7 @@ fn read_image<F: Files>(
     files: &F,
     alloc: Global,
     program: &Program<'_>,
-) -> Result<Vec<u8>, RunFailure>
+) -> Result<Vec<u8>, CommandFailure>
     ensures image { IfOk result (λ bytes. IsImageOf (F.holds files.now) (F.begins files.now)
         program.now bytes.items) }
     ensures errors { IfErr result (IsFileFailure (F.lacks files.now)
@@ -99,7 +99,7 @@ fn read_image_file<F: Files>(
     files: &F,
     alloc: Global,
     program: &Program<'_>,
-) -> Result<Vec<u8>, RunFailure>
+) -> Result<Vec<u8>, CommandFailure>
     ensures file { IfOk result (λ bytes. IsImageFile (F.holds files.now) (F.begins files.now)
         program.now.flat program.now.image.now bytes.items) }
     ensures errors { IfErr result (IsFileFailure (F.lacks files.now)

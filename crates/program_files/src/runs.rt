@@ -2,7 +2,7 @@ ghost use Rattle.std.specs.Prelude.{IfErr, IfOk};
 ghost use Rattle.program_files.specs.Asked.{IsFileOfRun, IsGiven, LacksSpurious};
 ghost use Rattle.program_files.specs.Failures.{IsFileFailure};
 
-use crate::failure::RunFailure;
+use crate::failure::CommandFailure;
 use crate::files::Files;
 use crate::plans::{AskedPlan, plan_of};
 use crate::reading::{ProgramFiles, read_program};
@@ -23,7 +23,11 @@ pub struct RunFiles {
 /// # Errors
 ///
 /// `File` where one of them can't be read, and `OutOfMemory`.
-pub fn read_run<F: Files>(files: &F, alloc: Global, run: &Run<'_>) -> Result<RunFiles, RunFailure>
+pub fn read_run<F: Files>(
+    files: &F,
+    alloc: Global,
+    run: &Run<'_>,
+) -> Result<RunFiles, CommandFailure>
     ensures given { IfOk result (λ read. IsGiven (F.holds files.now) (F.begins files.now) run.now
         read.program.image.items read.program.input.items read.plan.text.items read.plan.budget) }
     ensures errors { IfErr result (IsFileFailure (F.lacks files.now) (IsFileOfRun run.now)

@@ -1,9 +1,9 @@
 //! Waits for a condition that return without a signal.
 ghost use Rattle.std.specs.Prelude.{◌≡◌, ◌<◌, IfErr, IfOk, IfSome, None, length};
 ghost use Rattle.program_files.specs.Spurious.{AllowsSpurious, spurious_place};
-ghost use Rattle.program_files.specs.declared.failure.RunFailure.TheVariants.{NoSpurious};
+ghost use Rattle.program_files.specs.declared.failure.CommandFailure.TheVariants.{NoSpurious};
 
-use crate::failure::RunFailure;
+use crate::failure::CommandFailure;
 use crate::headers::place_of;
 use crate::objects::one_object;
 
@@ -15,13 +15,13 @@ const SPURIOUS: &str = "dethart_spurious";
 /// # Errors
 ///
 /// `NoSpurious` where the image has no such object, or has none of its bytes.
-pub(crate) fn allow_spurious(mut image: Vec<u8>) -> Result<Vec<u8>, RunFailure>
+pub(crate) fn allow_spurious(mut image: Vec<u8>) -> Result<Vec<u8>, CommandFailure>
     ensures allows { IfOk result (λ new. AllowsSpurious image.items new.items) }
     ensures errors { IfErr result (λ e. e ≡ NoSpurious) }
     ensures none { IfErr result (λ e. spurious_place image.items ≡ None) }
 {
     let Some(place) = spurious_place(&image) else {
-        return Err(RunFailure::NoSpurious);
+        return Err(CommandFailure::NoSpurious);
     };
     image[place] = 1;
     Ok(image)

@@ -1,4 +1,3 @@
 pub mod Printed
-pub mod Failures
 pub mod Reading
 pub mod Made

@@ -4,13 +4,11 @@ use Rattle.command_line.specs.declared.settings.Migrate.{Migrate}
 use Rattle.command_line.specs.declared.settings.Record.{Record}
 use Rattle.round_planner.specs.declared.settings.Settings.{Settings}
 use Rattle.program_files.specs.Asked.{IsFileOfRun, LacksSpurious, RefusedRun}
-use Rattle.program_files.specs.Failures.{IsFileFailure}
+use Rattle.program_files.specs.Failures.{IsFileFailure, IsUnwritten}
 use Rattle.program_files.specs.declared.files.FileFault.{FileFault}
 use Rattle.program_files.specs.Needed.{Needs}
-use Rattle.run_commands.specs.Failures.{IsUnwritten}
 use Rattle.run_commands.specs.Reading.{EndsReading}
-use Rattle.run_commands.specs.declared.failure.RecordFailure.{RecordFailure}
-use Rattle.run_commands.specs.declared.failure.RecordFailure.TheVariants.{Run, Unread, Unwritten}
+use Rattle.program_files.specs.declared.failure.CommandFailure.{CommandFailure}
 use Rattle.recording.specs.Grammar.{recording}
 use Rattle.recording.specs.Recorded.{Recorded}
 use Rattle.replayer.specs.Replayed.{recorded_of}
@@ -34,16 +32,14 @@ abbrev pub migrated_text : Recorded → List ℕ
 migrated_text r = recording.spelled (record r { version = 2 })
 
 -- a file of the run couldn't be read, or the run is refused; there is no output that could fail
-abbrev pub IsUnrecorded : (List ℕ → List ℕ → Type 0) → (List ℕ → ℕ → List ℕ → Type 0) → (List ℕ → FileFault → Type 0) → Record → RecordFailure → Type 0
-IsUnrecorded holds begins lacks asked (Run failure) =
-    IsFileFailure lacks (IsFileOfRun asked.run) (LacksSpurious holds begins asked.run.program) failure ⊎ RefusedRun holds begins asked.run ⊥ failure
-IsUnrecorded holds begins lacks asked (Unread error) = ⊥
-IsUnrecorded holds begins lacks asked (Unwritten text) = ⊥
+abbrev pub IsUnrecorded : (List ℕ → List ℕ → Type 0) → (List ℕ → ℕ → List ℕ → Type 0) → (List ℕ → FileFault → Type 0) → Record → CommandFailure → Type 0
+IsUnrecorded holds begins lacks asked f =
+    IsFileFailure lacks (IsFileOfRun asked.run) (LacksSpurious holds begins asked.run.program) f ⊎ RefusedRun holds begins asked.run ⊥ f
 
 -- why `record` ends without a recording: the run isn't recorded, or its recording couldn't be written
-abbrev pub EndsRecord : (List ℕ → List ℕ → Type 0) → (List ℕ → ℕ → List ℕ → Type 0) → (List ℕ → FileFault → Type 0) → (List ℕ → Type 0) → Record → RecordFailure → Type 0
+abbrev pub EndsRecord : (List ℕ → List ℕ → Type 0) → (List ℕ → ℕ → List ℕ → Type 0) → (List ℕ → FileFault → Type 0) → (List ℕ → Type 0) → Record → CommandFailure → Type 0
 EndsRecord holds begins lacks wasnt_given asked f = IsUnrecorded holds begins lacks asked f ⊎ IsUnwritten wasnt_given asked.out.now f
 
 -- why `migrate` does: no recording was read, or the new one couldn't be written
-abbrev pub EndsMigrate : (List ℕ → List ℕ → List ℕ → Type 0) → (List ℕ → FileFault → Type 0) → (List ℕ → Type 0) → Migrate → RecordFailure → Type 0
+abbrev pub EndsMigrate : (List ℕ → List ℕ → List ℕ → Type 0) → (List ℕ → FileFault → Type 0) → (List ℕ → Type 0) → Migrate → CommandFailure → Type 0
 EndsMigrate marked lacks wasnt_given asked f = EndsReading marked lacks asked.recording.now f ⊎ IsUnwritten wasnt_given asked.out.now f

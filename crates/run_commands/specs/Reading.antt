@@ -1,10 +1,10 @@
 -- Recordings that files hold. `marked` says that bytes are all that the file of a path held, if they begin with a mark, and else a
 -- beginning of it, and `lacks` that it couldn't be read for a fault.
-use Rattle.std.specs.Prelude.{◌≡◌, ℕ, List, codes}
+use Rattle.std.specs.Prelude.{◌≡◌, ◌⊎◌, ℕ, List, codes}
 use Rattle.program_files.specs.Failures.{IsFileFailure}
 use Rattle.program_files.specs.declared.files.FileFault.{FileFault}
-use Rattle.run_commands.specs.declared.failure.RecordFailure.{RecordFailure}
-use Rattle.run_commands.specs.declared.failure.RecordFailure.TheVariants.{Run, Unread, Unwritten}
+use Rattle.program_files.specs.declared.failure.CommandFailure.{CommandFailure}
+use Rattle.program_files.specs.declared.failure.CommandFailure.TheVariants.{Unread}
 use Rattle.recording.specs.Grammar.{IsRecording, reading}
 use Rattle.recording.specs.Recorded.{Recorded}
 use Rattle.recording.specs.Views.{Fails}
@@ -27,7 +27,6 @@ pub record HoldsNoRecording (marked : List ℕ → List ℕ → List ℕ → Typ
   pub fails : Fails e (reading text)
 
 -- why no recording was read: the file can't be read, memory was refused, or it holds none
-abbrev pub EndsReading : (List ℕ → List ℕ → List ℕ → Type 0) → (List ℕ → FileFault → Type 0) → List ℕ → RecordFailure → Type 0
-EndsReading marked lacks path (Run failure) = IsFileFailure lacks (λ named. named ≡ path) ⊥ failure
-EndsReading marked lacks path (Unread error) = HoldsNoRecording marked path error
-EndsReading marked lacks path (Unwritten text) = ⊥
+abbrev pub EndsReading : (List ℕ → List ℕ → List ℕ → Type 0) → (List ℕ → FileFault → Type 0) → List ℕ → CommandFailure → Type 0
+EndsReading marked lacks path failure =
+    IsFileFailure lacks (λ named. named ≡ path) ⊥ failure ⊎ ((error : ReadError) × (failure ≡ Unread error) × HoldsNoRecording marked path error)

@@ -1,7 +1,6 @@
 //! The commands that run a guest program once: `run` and `order` print the run, `record` writes it to a file, and `migrate` a recording.
 #![tactic(auto)]
 
-mod failure;
 mod looping;
 mod making;
 mod migrating;
@@ -11,7 +10,6 @@ mod running;
 mod saving;
 mod shown;
 
-pub use failure::RecordFailure;
 pub use making::record_command;
 pub use migrating::migrate_command;
 pub use ordering::order_command;

@@ -2,7 +2,7 @@
 use command_line::Program;
 use hunter::find_run_endings;
 use plan_hunt::HartEnding;
-use program_files::{Messages, RunFailure, RunFiles, guest_files, settings_of};
+use program_files::{CommandFailure, Messages, RunFiles, guest_files, settings_of};
 use std::alloc::Global;
 use std::sync::Wait;
 use std::thread::Threads;
@@ -15,7 +15,7 @@ pub(crate) fn tell_loops<M: Messages, R: Threads + Wait + Sync>(
     program: &Program<'_>,
     given: &RunFiles,
     messages: &M,
-) -> Result<(), RunFailure> {
+) -> Result<(), CommandFailure> {
     let endings = endings_of(threads, alloc, program, given)?;
     for (hart, ending) in endings.iter().enumerate() {
         if *ending == HartEnding::Loops {
@@ -31,7 +31,7 @@ fn endings_of<R: Threads + Wait + Sync>(
     alloc: Global,
     program: &Program<'_>,
     given: &RunFiles,
-) -> Result<Vec<HartEnding>, RunFailure> {
+) -> Result<Vec<HartEnding>, CommandFailure> {
     let settings = settings_of(program, &given.plan);
     let answer = find_run_endings(threads, alloc, &guest_files(&given.program), &settings);
     given.plan.explain(alloc, settings.harts, answer)

@@ -1,20 +1,19 @@
 ghost use Rattle.std.specs.Prelude.{◌≡◌, ◌⊎◌, ℕ, None, IfErr, IfOk, OnErr};
 ghost use Rattle.program_files.specs.Asked.{AskedRun, RefusedSetRun, SetRun};
 ghost use Rattle.program_files.specs.declared.exit_status.ExitStatus.TheVariants as statuses;
-ghost use Rattle.run_commands.specs.Failures.{IsUnwritten};
+ghost use Rattle.program_files.specs.Failures.{IsUnwritten};
 ghost use Rattle.run_commands.specs.Made.{AreRecorded, EndsRecord, for_rounds, recorded_text};
 ghost use Rattle.replayer.specs.Replayed.{recorded_of};
 ghost use Rattle.round_planner.specs.Quotas.{Planned};
 ghost use Rattle.round_planner.specs.Settings.{IsPlan, IsReason, RefusedInOrder, settings_fault};
 
-use crate::failure::RecordFailure;
 use crate::saving::save;
 use command_line::Record;
 use host_io::RunError;
 use machine::{GuestFiles, Observer, Settings};
 use program_files::{
-    ExitStatus, Files, Messages, ProgressLine, RunFailure, RunFiles, guest_files, needed_rounds,
-    read_run, settings_of,
+    CommandFailure, ExitStatus, Files, Messages, ProgressLine, RunFiles, guest_files,
+    needed_rounds, read_run, settings_of,
 };
 use recording::{Checkpoint, Recording};
 use replayer::record_observed;
@@ -27,8 +26,8 @@ use std::thread::Threads;
 ///
 /// # Errors
 ///
-/// `Run` where a file can't be read, for the refusals of the run, and for want of memory: no file is written then. `Unwritten` where the
-/// recording can't be written: its file holds what it held before.
+/// `File` where one can't be read, the refusals of the run, and that of memory: no file is written then. `Unwritten` where the recording
+/// can't be written: its file holds what it held before.
 pub fn record_command<F: Files, M: Messages, P: Observer + ProgressLine, R: Threads + Wait + Sync>(
     threads: &R,
     alloc: Global,
@@ -36,7 +35,7 @@ pub fn record_command<F: Files, M: Messages, P: Observer + ProgressLine, R: Thre
     asked: &Record<'_>,
     progress: &mut P,
     messages: &M,
-) -> Result<ExitStatus, RecordFailure>
+) -> Result<ExitStatus, CommandFailure>
     // The file that the line names was given the recording of the run that the line asks for, of all its rounds or of those that it needs.
     ensures records { IfOk result (λ status.
         (a : AskedRun (F.holds files.old) (F.begins files.old) asked.now.run) × (n : ℕ) ×
@@ -65,7 +64,7 @@ fn record_given<P: Observer + ProgressLine, R: Threads + Wait + Sync>(
     given: &RunFiles,
     asked: &Record<'_>,
     progress: &mut P,
-) -> Result<Recording, RunFailure>
+) -> Result<Recording, CommandFailure>
     ensures records { IfOk result (λ recorded.
         (r : SetRun asked.now.run.program given.now.plan.text.items given.now.plan.budget) ×
         (n : ℕ) ×

@@ -1,15 +1,14 @@
 ghost use Rattle.std.specs.Prelude.{◌≡◌, ◌⊎◌, IfErr, IfOk};
 ghost use Rattle.program_files.specs.declared.exit_status.ExitStatus.TheVariants as statuses;
-ghost use Rattle.run_commands.specs.Failures.{IsUnwritten};
+ghost use Rattle.program_files.specs.Failures.{IsUnwritten};
 ghost use Rattle.run_commands.specs.Made.{EndsMigrate, migrated_text};
 ghost use Rattle.run_commands.specs.Reading.{HoldsRecording};
 ghost use Rattle.recording.specs.Recorded.{Recorded};
 
-use crate::failure::RecordFailure;
 use crate::reading::read_recording_of;
 use crate::saving::save;
 use command_line::Migrate;
-use program_files::{ExitStatus, Files};
+use program_files::{CommandFailure, ExitStatus, Files};
 use recording::migrate;
 use std::alloc::Global;
 
@@ -17,13 +16,13 @@ use std::alloc::Global;
 ///
 /// # Errors
 ///
-/// `Run` where the file can't be read, and for want of memory; `Unread` where it is no recording: no file is written then. `Unwritten`
-/// where the new one can't be written: its file holds what it held before.
+/// `File` where it can't be read, and the refusal of memory; `Unread` where it is no recording: no file is written then. `Unwritten` where
+/// the new one can't be written: its file holds what it held before.
 pub fn migrate_command<F: Files>(
     alloc: Global,
     files: &mut F,
     asked: &Migrate<'_>,
-) -> Result<ExitStatus, RecordFailure>
+) -> Result<ExitStatus, CommandFailure>
     // The file that the line names was given, in the newest version, the recording that the other one holds.
     ensures migrates { IfOk result (λ status. (r : Recorded) ×
         HoldsRecording (F.marked files.old) asked.now.recording.now r ×

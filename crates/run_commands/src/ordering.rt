@@ -9,7 +9,7 @@ use command_line::Run;
 use emulation::order_run;
 use machine::{Observed, Observer};
 use program_files::{
-    ExitStatus, Files, Output, ProgressLine, RunFailure, RunFiles, read_run, settings_of,
+    CommandFailure, ExitStatus, Files, Output, ProgressLine, RunFiles, read_run, settings_of,
 };
 use std::alloc::Global;
 use std::sync::Wait;
@@ -27,7 +27,7 @@ pub fn order_command<F: Files, O: Output, P: Observer + ProgressLine, R: Threads
     run: &Run<'_>,
     progress: &mut P,
     out: &mut O,
-) -> Result<ExitStatus, RunFailure>
+) -> Result<ExitStatus, CommandFailure>
     // All that was printed is an order of the memory operations of the run that the line asks for.
     ensures orders { IfOk result (λ status.
         (a : AskedRun (F.holds files.now) (F.begins files.now) run.now) × (indices : List ℕ) ×
@@ -62,7 +62,7 @@ fn order_given<O: Output, P: Observer + ProgressLine, R: Threads + Wait + Sync>(
     run: &Run<'_>,
     progress: &mut P,
     out: &mut O,
-) -> Result<(), RunFailure>
+) -> Result<(), CommandFailure>
     ensures orders { OnOk result
         ((r : SetRun run.now.program given.now.plan.text.items given.now.plan.budget) ×
         (indices : List ℕ) ×

@@ -2,8 +2,7 @@
 ghost use Rattle.std.specs.Prelude.{IfErr, IfOk};
 ghost use Rattle.run_commands.specs.Reading.{EndsReading, HoldsRecording};
 
-use crate::failure::RecordFailure;
-use program_files::{Files, unreadable};
+use program_files::{CommandFailure, Files, unreadable};
 use recording::{Recording, read_recording};
 use std::alloc::Global;
 
@@ -11,20 +10,20 @@ use std::alloc::Global;
 ///
 /// # Errors
 ///
-/// `Run` where the file can't be read or memory is refused; `Unread` where it is no recording.
+/// `File` where it can't be read; `Unread` where it is no recording; the refusal of memory.
 pub fn read_recording_of<F: Files>(
     files: &F,
     alloc: Global,
     path: &str,
-) -> Result<Recording, RecordFailure>
+) -> Result<Recording, CommandFailure>
     ensures holds { IfOk result (HoldsRecording (F.marked files.now) path.now) }
     ensures errors { IfErr result (EndsReading (F.marked files.now) (F.lacks files.now) path.now) }
 {
     match files.read_marked(path, b"RVDETREC") {
         Ok(text) => match read_recording(alloc, &text) {
             Ok(recorded) => Ok(recorded),
-            Err(error) => Err(RecordFailure::Unread(error)),
+            Err(error) => Err(CommandFailure::Unread(error)),
         },
-        Err(fault) => Err(RecordFailure::Run(unreadable(alloc, path, fault))),
+        Err(fault) => Err(unreadable(alloc, path, fault)),
     }
 }

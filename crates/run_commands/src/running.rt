@@ -6,7 +6,7 @@ ghost use Rattle.round_planner.specs.Settings.{IsReason, RefusedInOrder, setting
 ghost use Rattle.machine.specs.Runs.{after_run};
 ghost use Rattle.program_files.specs.Asked.{AskedRun, EndsFor, RefusedSetRun, SetRun};
 ghost use Rattle.program_files.specs.Failures.{HasFailed, IsUnprinted, failure_number};
-ghost use Rattle.program_files.specs.declared.failure.RunFailure.TheVariants as failures;
+ghost use Rattle.program_files.specs.declared.failure.CommandFailure.TheVariants as failures;
 ghost use Rattle.run_commands.specs.Printed.{IsPrinted, printed_text, run_status};
 ghost use Rattle.host_io.specs.Writes.{IsFaultOr, WritesAnswer};
 
@@ -17,8 +17,8 @@ use emulation::{RunEnd, report_run, show_run};
 use host_io::RunError;
 use machine::{GuestFiles, Observed, Observer, Settings};
 use program_files::{
-    ExitStatus, Files, Messages, Output, ProgressLine, RunFailure, RunFiles, guest_files, read_run,
-    settings_of,
+    CommandFailure, ExitStatus, Files, Messages, Output, ProgressLine, RunFiles, guest_files,
+    read_run, settings_of,
 };
 use std::alloc::Global;
 use std::sync::Wait;
@@ -44,7 +44,7 @@ pub fn run_command<
     progress: &mut P,
     out: &mut O,
     messages: &M,
-) -> Result<ExitStatus, RunFailure>
+) -> Result<ExitStatus, CommandFailure>
     // All that was printed is what the line asks for of the run that it asks for, and the status is that of how its harts end.
     ensures runs { IfOk result (λ status.
         (a : AskedRun (F.holds files.now) (F.begins files.now) asked.now.run) ×
@@ -77,7 +77,7 @@ fn run_given<O: Output, M: Messages, P: Observer + ProgressLine, R: Threads + Wa
     progress: &mut P,
     out: &mut O,
     messages: &M,
-) -> Result<ExitStatus, RunFailure>
+) -> Result<ExitStatus, CommandFailure>
     ensures runs { IfOk result (λ status.
         (r : SetRun asked.now.run.program given.now.plan.text.items given.now.plan.budget) ×
         (O.took out.new ≡ O.took out.old ++ printed_text asked.now r.settings
@@ -115,7 +115,7 @@ fn print_given<O: Output, P: Observer + ProgressLine, R: Threads + Wait + Sync>(
     asked: &Print<'_>,
     progress: &mut P,
     out: &mut O,
-) -> Result<RunEnd, RunFailure>
+) -> Result<RunEnd, CommandFailure>
     ensures runs { IfOk result (λ end.
         (r : SetRun asked.now.run.program given.now.plan.text.items given.now.plan.budget) ×
         (O.took out.new ≡ O.took out.old ++ printed_text asked.now r.settings

@@ -1,11 +1,10 @@
 //! Recordings that files are given.
 ghost use Rattle.std.specs.Prelude.{◌≡◌, IfErr, OnOk};
-ghost use Rattle.run_commands.specs.Failures.{IsUnwritten};
+ghost use Rattle.program_files.specs.Failures.{IsUnwritten};
 ghost use Rattle.recording.specs.Grammar.{recording};
 
-use crate::failure::RecordFailure;
 use host_io::{RunError, Sink};
-use program_files::{FileText, Files, RunFailure};
+use program_files::{CommandFailure, FileText, Files};
 use recording::{Recording, write_recording};
 use std::alloc::Global;
 
@@ -29,7 +28,7 @@ pub(crate) fn save<F: Files>(
     alloc: Global,
     recorded: &Recording,
     path: &str,
-) -> Result<(), RecordFailure>
+) -> Result<(), CommandFailure>
     ensures given { OnOk result (F.was_given files.old files.new path.now
         (recording.spelled recorded.now)) }
     ensures errors { IfErr result (IsUnwritten (F.wasnt_given files.new) path.now) }
@@ -38,9 +37,9 @@ pub(crate) fn save<F: Files>(
         Ok(()) => Ok(()),
         Err(error) => match (error, String::from_str(alloc, path)) {
             (RunError::OutOfMemory, _) | (_, Err(_)) => {
-                Err(RecordFailure::Run(RunFailure::Refused(RunError::OutOfMemory)))
+                Err(CommandFailure::Refused(RunError::OutOfMemory))
             }
-            (_, Ok(path)) => Err(RecordFailure::Unwritten(path)),
+            (_, Ok(path)) => Err(CommandFailure::Unwritten(path)),
         },
     }
 }

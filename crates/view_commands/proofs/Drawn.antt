@@ -1,5 +1,5 @@
 -- What is drawn of an execution, and what has begun where it was drawn.
-use Rattle.std.proofs.Common.{◌≡◌, ◌⊎◌, Bool, Err, IfOk, List, Ok, Result, false, inl, inr, true, ⊎_elim, ℕ}
+use Rattle.std.proofs.Common.{◌≡◌, ◌⊎◌, Bool, Err, IfOk, List, Ok, Result, false, inl, inr, refl, true, ⊎_elim, ℕ}
 use Rattle.command_line.specs.declared.settings.Draw.{Draw}
 use Rattle.execution_commands.specs.Checks.{CheckedText}
 use Rattle.execution_commands.specs.Verdicts.{IsVerdictText, is_allowed, verdict_status}
@@ -8,29 +8,25 @@ use Rattle.program_files.specs.declared.exit_status.ExitStatus.{ExitStatus}
 use Rattle.program_files.proofs.Begun.{whole}
 use Rattle.program_files.proofs.Failing.{failed_too}
 use Rattle.view_commands.specs.Drawings.{BeginsFound, DrawsBy, DrawsExecution, IsAskable, IsBegunBy, IsCheckedEnd, IsExecutionEnd, IsRunEnd, PrintsFound}
-use Rattle.view_commands.specs.declared.failure.DrawFailure.{DrawFailure}
-use Rattle.view_commands.specs.declared.failure.DrawFailure.TheVariants as failures
+use Rattle.program_files.specs.declared.failure.CommandFailure.{CommandFailure}
+use Rattle.program_files.specs.declared.failure.CommandFailure.TheVariants as failures
 
-pub draws_so : (asked : Draw) (file old new : List ℕ) (made : CheckedText file) (r : Result ExitStatus DrawFailure) → IsAskable asked →
+pub draws_so : (asked : Draw) (file old new : List ℕ) (made : CheckedText file) (r : Result ExitStatus CommandFailure) → IsAskable asked →
     IfOk r (λ _. PrintsFound (is_allowed made.checked.finding) asked made.execution (IsVerdictText made.checked) old new) →
     IfOk r (λ status. status ≡ verdict_status made.checked.finding) → IfOk r (DrawsExecution asked file old new)
 draws_so asked file old new made (Ok status) askable prints is_status = record { made = made; askable = askable; prints = prints; is_status = is_status }
 draws_so asked file old new made (Err e) askable prints is_status = tt
 
-pub end_so : (asked : Draw) (file : List ℕ) (made : CheckedText file) (failed : Type 0) (e : DrawFailure) → IsAskable asked →
+pub end_so : (asked : Draw) (file : List ℕ) (made : CheckedText file) (failed : Type 0) (e : CommandFailure) → IsAskable asked →
     IsCheckedEnd asked made.execution (is_allowed made.checked.finding) failed e → IsExecutionEnd asked file failed e
-end_so asked file made failed (failures.Run failure) askable h = ⊎_elim (λ memory. inl memory) (λ sink. inr (inl sink)) h
-end_so asked file made failed (failures.NoExecution cause line) askable h = absurd h
-end_so asked file made failed failures.NoRounds askable h = absurd h
-end_so asked file made failed (failures.Naming fault) askable h = record { made = made; askable = askable; allowed = h.0; named = h.1 }
+end_so asked file made failed (failures.Naming fault) askable h =
+    inr (inr (inr (inr (fault, refl, record { made = made; askable = askable; allowed = h.0; named = h.1 }))))
+end_so asked file made failed _ askable h = inl h
 
 -- a run that isn't drawn for another cause than the output
-pub run_end_too : (asked : Draw) (image text : List ℕ) (budget : ℕ) (failed : Type 0) (e : DrawFailure) → IsRunEnd asked image text budget ⊥ e → IsRunEnd asked image text budget failed e
-run_end_too asked image text budget failed (failures.Run failure) h =
-    ⊎_elim (λ memory. inl memory) (λ r. inr (failed_too asked.run.program text budget image failure (λ none. absurd none) r)) h
-run_end_too asked image text budget failed (failures.NoExecution cause line) h = h
-run_end_too asked image text budget failed failures.NoRounds h = h
-run_end_too asked image text budget failed (failures.Naming fault) h = h
+pub run_end_too : (asked : Draw) (image text : List ℕ) (budget : ℕ) (failed : Type 0) (e : CommandFailure) → IsRunEnd asked image text budget ⊥ e → IsRunEnd asked image text budget failed e
+run_end_too asked image text budget failed f h = ⊎_elim (λ memory. inl memory)
+    (λ q. ⊎_elim (λ r. inr (inl (failed_too asked.run.program text budget image f (λ none. absurd none) r))) (λ named. inr (inr named)) q) h
 
 begins : (allowed : Bool) (asked : Draw) (execution : Recorded) (IsSaid : List ℕ → Type 0) (old new : List ℕ) →
     PrintsFound allowed asked execution IsSaid old new → BeginsFound allowed asked execution IsSaid old new

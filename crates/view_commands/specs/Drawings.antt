@@ -3,7 +3,7 @@
 use Rattle.std.specs.Prelude.{◌≡◌, ◌⊎◌, ◌++◌, ◌&&◌, ◌||◌, Bool, List, None, Option, Some, false, is_some, nat_lt, not, true, ℕ}
 use Rattle.command_line.specs.declared.settings.Draw.{Draw}
 use Rattle.execution_commands.specs.Checks.{CheckedText, IsUnchecked}
-use Rattle.execution_commands.specs.Texts.{IsRefusedIn, is_execution}
+use Rattle.execution_commands.specs.Texts.{IsNoExecution, is_execution}
 use Rattle.execution_commands.specs.Verdicts.{IsVerdictText, is_allowed, verdict_status}
 use Rattle.execution_file.specs.Grammar.{IsExecution}
 use Rattle.execution_file.specs.Recorded.{Recorded}
@@ -13,14 +13,13 @@ use Rattle.host_io.specs.declared.load_error.LoadError.{LoadError as ImageCause}
 use Rattle.round_planner.specs.Settings.{IsImageCause, settings_fault}
 use Rattle.program_files.specs.declared.fault.NamingFault.{NamingFault}
 use Rattle.program_files.specs.Asked.{IsFileOfRun, IsGiven, LacksSpurious, RefusedSetRun, SetRun}
-use Rattle.program_files.specs.Failures.{IsFileFailure}
-use Rattle.program_files.specs.declared.failure.RunFailure.TheVariants as runs
+use Rattle.program_files.specs.Failures.{IsCutEnd, IsFileFailure, IsOutput, out_of_memory}
 use Rattle.program_files.specs.declared.files.FileFault.{FileFault}
 use Rattle.program_files.specs.declared.exit_status.ExitStatus.{ExitStatus}
 use Rattle.program_files.specs.declared.exit_status.ExitStatus.TheVariants.{Done}
 use Rattle.view_commands.specs.Views.{IsNamed, SetDraw, drawn_text}
-use Rattle.view_commands.specs.declared.failure.DrawFailure.{DrawFailure}
-use Rattle.view_commands.specs.declared.failure.DrawFailure.TheVariants as failures
+use Rattle.program_files.specs.declared.failure.CommandFailure.{CommandFailure}
+use Rattle.program_files.specs.declared.failure.CommandFailure.TheVariants as failures
 
 -- ---- runs
 
@@ -45,12 +44,10 @@ pub record IsMisnamed (asked : Draw) (image text : List ℕ) (budget : ℕ) (fau
   pub named : IsNamed asked image asked.run.program.pages (Some fault)
 
 -- why a run isn't drawn
-abbrev pub IsRunEnd : Draw → List ℕ → List ℕ → ℕ → Type 0 → DrawFailure → Type 0
-IsRunEnd asked image text budget failed (failures.Run failure) =
-    (failure ≡ runs.Refused refusals.OutOfMemory) ⊎ RefusedSetRun asked.run.program text budget image failed failure
-IsRunEnd asked image text budget failed (failures.NoExecution cause line) = ⊥
-IsRunEnd asked image text budget failed failures.NoRounds = ⊥
-IsRunEnd asked image text budget failed (failures.Naming fault) = IsMisnamed asked image text budget fault
+abbrev pub IsRunEnd : Draw → List ℕ → List ℕ → ℕ → Type 0 → CommandFailure → Type 0
+IsRunEnd asked image text budget failed f =
+    (f ≡ out_of_memory) ⊎ RefusedSetRun asked.run.program text budget image failed f
+    ⊎ ((fault : NamingFault) × (f ≡ failures.Naming fault) × IsMisnamed asked image text budget fault)
 
 -- ---- executions
 
@@ -97,28 +94,21 @@ pub record IsMisnamedThere (asked : Draw) (file : List ℕ) (fault : NamingFault
   pub named : IsNamed asked made.execution.image made.execution.pages (Some fault)
 
 -- why the line isn't askable: for rounds, and else for the number of workers
-abbrev pub IsUnasked : Draw → DrawFailure → Type 0
-IsUnasked asked (failures.Run failure) = (asks_rounds asked ≡ false) × (has_bad_workers asked ≡ true) × (failure ≡ runs.Refused refusals.WorkersOutOfRange)
-IsUnasked asked (failures.NoExecution cause line) = ⊥
+abbrev pub IsUnasked : Draw → CommandFailure → Type 0
 IsUnasked asked failures.NoRounds = asks_rounds asked ≡ true
-IsUnasked asked (failures.Naming fault) = ⊥
+IsUnasked asked (failures.Refused error) = (asks_rounds asked ≡ false) × (has_bad_workers asked ≡ true) × (error ≡ refusals.WorkersOutOfRange)
+IsUnasked asked _ = ⊥
 
 -- why an execution that was checked isn't drawn
-abbrev pub IsCheckedEnd : Draw → Recorded → Bool → Type 0 → DrawFailure → Type 0
-IsCheckedEnd asked execution allowed failed (failures.Run failure) =
-    (failure ≡ runs.Refused refusals.OutOfMemory) ⊎ ((failure ≡ runs.Refused refusals.SinkFailed) × failed)
-IsCheckedEnd asked execution allowed failed (failures.NoExecution cause line) = ⊥
-IsCheckedEnd asked execution allowed failed failures.NoRounds = ⊥
+abbrev pub IsCheckedEnd : Draw → Recorded → Bool → Type 0 → CommandFailure → Type 0
 IsCheckedEnd asked execution allowed failed (failures.Naming fault) = (allowed ≡ true) × IsNamed asked execution.image execution.pages (Some fault)
+IsCheckedEnd asked execution allowed failed f = IsCutEnd failed f
 
 -- why an execution isn't drawn: rounds are refused before the number of workers, and that before the execution's guest
-abbrev pub IsExecutionEnd : Draw → List ℕ → Type 0 → DrawFailure → Type 0
-IsExecutionEnd asked file failed (failures.Run failure) =
-    (failure ≡ runs.Refused refusals.OutOfMemory) ⊎ ((failure ≡ runs.Refused refusals.SinkFailed) × failed)
-    ⊎ IsUnasked asked (failures.Run failure) ⊎ (IsAskable asked × IsUnchecked file failure)
-IsExecutionEnd asked file failed (failures.NoExecution cause line) = IsRefusedIn file cause line
-IsExecutionEnd asked file failed failures.NoRounds = (asks_rounds asked ≡ true) × (execution : Recorded) × IsExecution file execution
-IsExecutionEnd asked file failed (failures.Naming fault) = IsMisnamedThere asked file fault
+abbrev pub IsExecutionEnd : Draw → List ℕ → Type 0 → CommandFailure → Type 0
+IsExecutionEnd asked file failed f =
+    IsCutEnd failed f ⊎ IsNoExecution file f ⊎ (IsUnasked asked f × (execution : Recorded) × IsExecution file execution)
+    ⊎ (IsAskable asked × IsUnchecked file f) ⊎ ((fault : NamingFault) × (f ≡ failures.Naming fault) × IsMisnamedThere asked file fault)
 
 -- ---- the command
 
@@ -142,12 +132,12 @@ IsBegunBy false asked image input text budget old new = IsBegunRun asked image i
 abbrev pub IsBegun : Draw → List ℕ → List ℕ → List ℕ → ℕ → List ℕ → List ℕ → Type 0
 IsBegun asked image input text budget old new = IsBegunBy (is_of_execution asked image) asked image input text budget old new
 
-abbrev pub IsEndBy : Bool → Draw → List ℕ → List ℕ → ℕ → Type 0 → DrawFailure → Type 0
+abbrev pub IsEndBy : Bool → Draw → List ℕ → List ℕ → ℕ → Type 0 → CommandFailure → Type 0
 IsEndBy true asked image text budget failed f = IsExecutionEnd asked image failed f
 IsEndBy false asked image text budget failed f = IsRunEnd asked image text budget failed f
 
 -- why nothing is drawn of what the files gave
-abbrev pub IsDrawEnd : Draw → List ℕ → List ℕ → ℕ → Type 0 → DrawFailure → Type 0
+abbrev pub IsDrawEnd : Draw → List ℕ → List ℕ → ℕ → Type 0 → CommandFailure → Type 0
 IsDrawEnd asked image text budget failed f = IsEndBy (is_of_execution asked image) asked image text budget failed f
 
 -- what the files of the line give
@@ -159,14 +149,10 @@ pub record AskedDraw (holds : List ℕ → List ℕ → Type 0) (begins : List �
   pub given : IsGiven holds begins asked.run image input text budget
 
 -- a file of the line couldn't be read or lacks what is asked for, memory is refused, or the output failed
-abbrev pub IsFileEnd : (List ℕ → FileFault → Type 0) → Type 0 → Draw → Type 0 → DrawFailure → Type 0
-IsFileEnd lacks is_without asked failed (failures.Run failure) =
-    IsFileFailure lacks (IsFileOfRun asked.run) is_without failure ⊎ ((failure ≡ runs.Refused refusals.SinkFailed) × failed)
-IsFileEnd lacks is_without asked failed (failures.NoExecution cause line) = ⊥
-IsFileEnd lacks is_without asked failed failures.NoRounds = ⊥
-IsFileEnd lacks is_without asked failed (failures.Naming fault) = ⊥
+abbrev pub IsFileEnd : (List ℕ → FileFault → Type 0) → Type 0 → Draw → Type 0 → CommandFailure → Type 0
+IsFileEnd lacks is_without asked failed f = IsFileFailure lacks (IsFileOfRun asked.run) is_without f ⊎ IsOutput failed f
 
 -- why the command ends without a picture
-abbrev pub EndsDraw : (List ℕ → List ℕ → Type 0) → (List ℕ → ℕ → List ℕ → Type 0) → (List ℕ → FileFault → Type 0) → Draw → Type 0 → DrawFailure → Type 0
+abbrev pub EndsDraw : (List ℕ → List ℕ → Type 0) → (List ℕ → ℕ → List ℕ → Type 0) → (List ℕ → FileFault → Type 0) → Draw → Type 0 → CommandFailure → Type 0
 EndsDraw holds begins lacks asked failed f =
     IsFileEnd lacks (LacksSpurious holds begins asked.run.program) asked failed f ⊎ ((a : AskedDraw holds begins asked) × IsDrawEnd asked a.image a.text a.budget failed f)

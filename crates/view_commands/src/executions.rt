@@ -3,13 +3,11 @@ ghost use Rattle.std.specs.Prelude.{◌≡◌, ◌⊎◌, Err, IfErr, IfOk, None
 ghost use Rattle.execution_commands.specs.Verdicts.{IsVerdictText, is_allowed, verdict_status};
 ghost use Rattle.execution_file.specs.Views.{as_recorded};
 ghost use Rattle.host_io.specs.declared.error.RunError.TheVariants as refusals;
-ghost use Rattle.program_files.specs.Failures.{HasFailed, IsCutOff, IsUnprinted};
-ghost use Rattle.view_commands.specs.Failures.{failure_number};
+ghost use Rattle.program_files.specs.Failures.{HasFailed, IsCutOff, IsUnprinted, failure_number};
 ghost use Rattle.view_commands.specs.Drawings.{BeginsFound, DrawsExecution, IsAskable, IsBegunExecution, IsCheckedEnd, IsExecutionEnd, IsUnasked, PrintsFound};
 ghost use Rattle.view_commands.specs.Views.{IsNamed};
 ghost use Rattle.program_files.specs.declared.exit_status.ExitStatus.TheVariants.{Done};
 
-use crate::failure::DrawFailure;
 use crate::ranges::access_ranges;
 use command_line::{Bytes, Draw};
 use drawing::{ExecutionScene, object_touched, write_execution_picture};
@@ -19,7 +17,7 @@ use host_io::RunError;
 use machine::Format;
 use pages::OutOfMemory;
 use picture::Site;
-use program_files::{ExitStatus, NamedBytes, Output, named_bytes};
+use program_files::{CommandFailure, ExitStatus, NamedBytes, Output, named_bytes};
 use std::alloc::Global;
 
 /// Prints a picture of the execution that a text says, or what is found of it, where RVWMO doesn't allow it.
@@ -28,7 +26,7 @@ pub(crate) fn draw_execution<O: Output>(
     text: &[u8],
     asked: &Draw<'_>,
     out: &mut O,
-) -> Result<ExitStatus, DrawFailure>
+) -> Result<ExitStatus, CommandFailure>
     ensures draws { IfOk result (DrawsExecution asked.now text.now (O.took out.old)
         (O.took out.new)) }
     ensures begun { OnErr result ((O.took out.new ≡ O.took out.old) ⊎
@@ -45,15 +43,15 @@ pub(crate) fn draw_execution<O: Output>(
 }
 
 /// Refuses what no execution has, and a number of workers as the questions about recordings do.
-fn refuse_options(asked: &Draw<'_>) -> Result<(), DrawFailure>
+fn refuse_options(asked: &Draw<'_>) -> Result<(), CommandFailure>
     ensures askable { OnOk result (IsAskable asked.now) }
     ensures errors { IfErr result (IsUnasked asked.now) }
 {
     let workers = asked.run.program.workers;
     if asked.from.is_some() || asked.to.is_some() {
-        Err(DrawFailure::NoRounds)
+        Err(CommandFailure::NoRounds)
     } else if workers < 1 || workers > 16 {
-        Err(DrawFailure::from(RunError::WorkersOutOfRange))
+        Err(CommandFailure::from(RunError::WorkersOutOfRange))
     } else {
         Ok(())
     }
@@ -66,7 +64,7 @@ fn draw_checked<O: Output>(
     checked: &Checked,
     asked: &Draw<'_>,
     out: &mut O,
-) -> Result<ExitStatus, DrawFailure>
+) -> Result<ExitStatus, CommandFailure>
     ensures prints { IfOk result (λ _.
         PrintsFound (is_allowed checked.now.finding) asked.now (as_recorded file.now)
         (IsVerdictText checked.now) (O.took out.old) (O.took out.new)) }
@@ -95,7 +93,7 @@ fn draw_allowed<O: Output>(
     checked: &Checked,
     asked: &Draw<'_>,
     out: &mut O,
-) -> Result<ExitStatus, DrawFailure>
+) -> Result<ExitStatus, CommandFailure>
     ensures sound { OnOk result (IsNamed asked.now file.now.image.items file.now.pages None) }
     ensures status { IfOk result (λ status. status ≡ Done) }
     ensures begun { OnErr result ((O.took out.new ≡ O.took out.old) ⊎
@@ -113,7 +111,7 @@ fn draw_allowed<O: Output>(
         &asked.objects,
     )?;
     match fault {
-        Some(fault) => Err(DrawFailure::Naming(fault)),
+        Some(fault) => Err(CommandFailure::Naming(fault)),
         None => {
             put_picture(alloc, file, checked, &bytes, out)?;
             Ok(ExitStatus::Done)

@@ -2,20 +2,18 @@
 ghost use Rattle.std.specs.Prelude.{◌≡◌, ◌⊎◌, ◌++◌, IfErr, IfOk, OnErr, OnOk, Some};
 ghost use Rattle.host_io.specs.Taken.{BeganText};
 ghost use Rattle.program_files.specs.Asked.{RefusedSetRun};
-ghost use Rattle.program_files.specs.Failures.{HasFailed, IsUnprinted, failure_number as run_number};
-ghost use Rattle.view_commands.specs.Failures.{failure_number};
+ghost use Rattle.program_files.specs.Failures.{HasFailed, IsUnprinted, failure_number};
 ghost use Rattle.view_commands.specs.Drawings.{DrawsRun, IsBegunRun, IsRunEnd};
 ghost use Rattle.view_commands.specs.Views.{HasRounds, IsNamed, SetDraw, drawn_text, ranges_of};
 
-use crate::failure::DrawFailure;
 use crate::ranges::access_ranges;
 use command_line::Draw;
 use drawing::{View, draw_run};
 use machine::{Observed, Observer, prepare};
 use pages::Range;
 use program_files::{
-    ExitStatus, NamedBytes, NamingFault, Output, ProgressLine, RunFailure, RunFiles, guest_files,
-    named_bytes, settings_of,
+    CommandFailure, ExitStatus, NamedBytes, NamingFault, Output, ProgressLine, RunFiles,
+    guest_files, named_bytes, settings_of,
 };
 use std::alloc::Global;
 use std::sync::Wait;
@@ -29,7 +27,7 @@ pub(crate) fn draw_guest<O: Output, P: Observer + ProgressLine, R: Threads + Wai
     asked: &Draw<'_>,
     progress: &mut P,
     out: &mut O,
-) -> Result<ExitStatus, DrawFailure>
+) -> Result<ExitStatus, CommandFailure>
     ensures draws { IfOk result (DrawsRun asked.now given.now.program.image.items
         given.now.program.input.items
         given.now.plan.text.items given.now.plan.budget (O.took out.old) (O.took out.new)) }
@@ -68,7 +66,7 @@ fn draw_ranges<O: Output, P: Observer + ProgressLine, R: Threads + Wait + Sync>(
     ranges: &[Range],
     progress: &mut P,
     out: &mut O,
-) -> Result<(), RunFailure>
+) -> Result<(), CommandFailure>
     requires { ranges.now ≡ ranges_of asked.now given.now.program.image.items }
     ensures draws { OnOk result
         ((d : SetDraw asked.now given.now.program.image.items given.now.plan.text.items
@@ -79,7 +77,7 @@ fn draw_ranges<O: Output, P: Observer + ProgressLine, R: Threads + Wait + Sync>(
         given.now.plan.budget) ×
         BeganText (O.took out.old) (O.took out.new) (drawn_text given.now.program.input.items d))) }
     ensures unprinted { IfErr result (λ f.
-        IsUnprinted (run_number f) (O.took out.old) (O.took out.new)) }
+        IsUnprinted (failure_number f) (O.took out.old) (O.took out.new)) }
     ensures errors { IfErr result (RefusedSetRun asked.now.run.program given.now.plan.text.items
         given.now.plan.budget given.now.program.image.items
         (HasFailed O.failures O.is_stuck out.old out.new)) }
@@ -112,7 +110,12 @@ fn view_of<'a>(asked: &Draw<'_>, ranges: &'a [Range]) -> View<'a>
 }
 
 /// Why a run isn't drawn with bytes of which this is wrong: what refuses its settings, its image or its plan comes before.
-fn refused_for(alloc: Global, given: &RunFiles, asked: &Draw<'_>, fault: NamingFault) -> DrawFailure
+fn refused_for(
+    alloc: Global,
+    given: &RunFiles,
+    asked: &Draw<'_>,
+    fault: NamingFault,
+) -> CommandFailure
     requires { IsNamed asked.now given.now.program.image.items asked.now.run.program.pages
         (Some fault) }
     ensures { IsRunEnd asked.now given.now.program.image.items given.now.plan.text.items
@@ -122,7 +125,7 @@ fn refused_for(alloc: Global, given: &RunFiles, asked: &Draw<'_>, fault: NamingF
     let (image, input) = (&given.program.image, &given.program.input);
     let prepared = prepare(alloc, image, input, &settings);
     match given.plan.explain(alloc, settings.harts, prepared) {
-        Ok(_machine) => DrawFailure::Naming(fault),
-        Err(failure) => DrawFailure::Run(failure),
+        Ok(_machine) => CommandFailure::Naming(fault),
+        Err(failure) => failure,
     }
 }

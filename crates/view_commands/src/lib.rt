@@ -2,13 +2,11 @@
 #![tactic(auto)]
 
 mod executions;
-mod failure;
 mod guests;
 mod pictures;
 mod ranges;
 mod tracing;
 
-pub use failure::DrawFailure;
 pub use pictures::draw_command;
 pub use ranges::access_ranges;
 pub use tracing::trace_command;

@@ -1,16 +1,15 @@
 ghost use Rattle.std.specs.Prelude.{◌≡◌, ◌⊎◌, IfErr, IfOk, OnErr};
-ghost use Rattle.program_files.specs.Failures.{HasFailed, IsUnprinted};
-ghost use Rattle.view_commands.specs.Failures.{failure_number};
+ghost use Rattle.program_files.specs.Failures.{HasFailed, IsUnprinted, failure_number};
 ghost use Rattle.view_commands.specs.Drawings.{AskedDraw, Draws, EndsDraw, IsBegun, IsDrawEnd, is_of_execution};
 
 use crate::executions::draw_execution;
-use crate::failure::DrawFailure;
 use crate::guests::draw_guest;
 use command_line::Draw;
 use execution_commands::is_execution;
 use machine::Observer;
 use program_files::{
-    ExitStatus, Files, Messages, Output, ProgressLine, RunFiles, read_run, tell_of_decimals,
+    CommandFailure, ExitStatus, Files, Messages, Output, ProgressLine, RunFiles, read_run,
+    tell_of_decimals,
 };
 use std::alloc::Global;
 use std::sync::Wait;
@@ -21,9 +20,9 @@ use std::thread::Threads;
 ///
 /// # Errors
 ///
-/// `Run` where a file can't be read. Of a run, `Run` for the settings, the image and the plan in this order, and then `Naming` for bytes
-/// that can't be looked at. Of an execution `NoExecution`, `NoRounds` where the line has --from or --to, `Run` for the number of workers and
-/// then for its guest, and `Naming`. `Run` for the refusal of memory at any time, and where the output can't be written.
+/// `File` where one can't be read, and `NoSpurious`. Of a run, the refusals for the settings, the image and the plan in this order, and then
+/// `Naming` for bytes that can't be looked at. Of an execution `NoExecution`, `NoRounds` where the line has --from or --to, `Refused` for the
+/// number of workers and then for its guest, and `Naming`. The refusal of memory at any time, and `SinkFailed`.
 pub fn draw_command<
     F: Files,
     O: Output,
@@ -38,7 +37,7 @@ pub fn draw_command<
     progress: &mut P,
     out: &mut O,
     messages: &M,
-) -> Result<ExitStatus, DrawFailure>
+) -> Result<ExitStatus, CommandFailure>
     // All that was printed is the picture that the line asks for, or else what is found of the execution.
     ensures draws { IfOk result (λ status.
         (a : AskedDraw (F.holds files.now) (F.begins files.now) asked.now) ×
@@ -71,7 +70,7 @@ fn draw_given<O: Output, P: Observer + ProgressLine, R: Threads + Wait + Sync>(
     asked: &Draw<'_>,
     progress: &mut P,
     out: &mut O,
-) -> Result<ExitStatus, DrawFailure>
+) -> Result<ExitStatus, CommandFailure>
     ensures draws { IfOk result (Draws asked.now given.now.program.image.items
         given.now.program.input.items
         given.now.plan.text.items given.now.plan.budget (O.took out.old) (O.took out.new)) }

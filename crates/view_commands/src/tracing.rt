@@ -9,7 +9,7 @@ use command_line::Run;
 use drawing::trace_run;
 use machine::{Observed, Observer};
 use program_files::{
-    ExitStatus, Files, Output, ProgressLine, RunFailure, RunFiles, guest_files, read_run,
+    CommandFailure, ExitStatus, Files, Output, ProgressLine, RunFiles, guest_files, read_run,
     settings_of,
 };
 use std::alloc::Global;
@@ -28,7 +28,7 @@ pub fn trace_command<F: Files, O: Output, P: Observer + ProgressLine, R: Threads
     run: &Run<'_>,
     progress: &mut P,
     out: &mut O,
-) -> Result<ExitStatus, RunFailure>
+) -> Result<ExitStatus, CommandFailure>
     // All that was printed is the trace of the run that the line asks for, as JSON.
     ensures traces { IfOk result (λ status.
         (a : AskedRun (F.holds files.now) (F.begins files.now) run.now) ×
@@ -61,7 +61,7 @@ fn trace_given<O: Output, P: Observer + ProgressLine, R: Threads + Wait + Sync>(
     run: &Run<'_>,
     progress: &mut P,
     out: &mut O,
-) -> Result<(), RunFailure>
+) -> Result<(), CommandFailure>
     ensures traces { OnOk result
         ((r : SetRun run.now.program given.now.plan.text.items given.now.plan.budget) ×
         (O.took out.new ≡ O.took out.old ++ trace_events_after r.settings

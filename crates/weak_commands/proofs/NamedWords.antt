@@ -3,7 +3,7 @@ use Rattle.std.proofs.Common.{◌≡◌, ◌<◌, ◌+◌, ℕ, Bor, Err, List, 
 use Rattle.std.proofs.lemmas.List.{drop_more}
 use Rattle.pages.specs.declared.access.Range.{Range}
 use Rattle.weak_commands.specs.Places.{AreFences, IsFence, IsFirstMisplaced}
-use Rattle.weak_commands.specs.declared.places.Misplaced.{Misplaced}
+use Rattle.program_files.specs.declared.reasons.Misplaced.{Misplaced}
 use Rattle.timed_machine.specs.declared.assumed.AssumedFence.{AssumedFence}
 
 -- the word at a place, and those behind it

@@ -6,8 +6,8 @@ use Rattle.command_line.specs.declared.settings.Fences.{Fences}
 use Rattle.execution_file.specs.declared.file.ExecutionFile.{ExecutionFile}
 use Rattle.weak_commands.specs.Saved.{IsUnsavedIn}
 use Rattle.weak_commands.specs.Places.{IsAssumed, IsUnplaced}
-use Rattle.weak_commands.specs.declared.failure.FencesFailure.{FencesFailure}
-use Rattle.weak_commands.specs.declared.failure.FencesFailure.TheVariants as failures
+use Rattle.program_files.specs.declared.failure.CommandFailure.{CommandFailure}
+use Rattle.program_files.specs.declared.failure.CommandFailure.TheVariants.{Accept}
 use Rattle.fence_finder.specs.MissingFences.{IsSearched, IsSearchedBy}
 use Rattle.fence_finder.specs.declared.settings.FenceSettings.{FenceSettings}
 use Rattle.fence_table.specs.Accepting.{accepted_in}
@@ -15,14 +15,14 @@ use Rattle.fence_table.specs.declared.accept_error.AcceptError.TheVariants as ac
 use Rattle.fence_table.specs.declared.fence_table.FenceTable.{FenceTable}
 use Rattle.fence_trials.specs.declared.departing.Departing.{Departing}
 use Rattle.fence_trials.specs.declared.guest.FenceGuest.{FenceGuest}
-use Rattle.hunt_commands.specs.Asked.{IsCutEnd, IsFileEnd, IsRefusedSo}
+use Rattle.hunt_commands.specs.Asked.{IsRefusedSo}
 use Rattle.hunt_commands.specs.Settings.{HasNumbers, HasRanges}
-use Rattle.hunt_commands.specs.declared.failure.HuntFailure.{HuntFailure}
 use Rattle.hunter.specs.Hunts.{hunt_fault}
 use Rattle.hunter.specs.declared.settings.HuntSettings.{HuntSettings}
 use Rattle.plan_hunt.specs.Endings.{Ended}
 use Rattle.plan_hunt.specs.declared.extent.Until.TheVariants.{Bad, Done}
 use Rattle.program_files.specs.Asked.{IsFileOfProgram, IsInputOf, IsProgramOf, LacksSpurious}
+use Rattle.program_files.specs.Failures.{IsCutEnd, IsFileFailure}
 use Rattle.program_files.specs.declared.files.FileFault.{FileFault}
 
 -- ---- what is searched
@@ -79,27 +79,29 @@ pub record AskedSearch (holds : List ℕ → List ℕ → Type 0) (begins : List
 -- ---- refusals
 
 -- the search is refused as a hunt is, or since an execution isn't confirmed
-pub record IsRefusedSearch (asked : Fences) (image : List ℕ) (failed : Type 0) (f : HuntFailure) : Type 0 where
+pub record IsRefusedSearch (asked : Fences) (image : List ℕ) (failed : Type 0) (f : CommandFailure) : Type 0 where
   pub settings : HuntSettings
   pub numbers : HasNumbers asked.search asked.first asked.plans false settings
   pub refused : IsRefusedSo asked.search true (hunt_fault settings) settings image failed f
 
--- a word names no instruction of the image
-pub record IsUnplacedSearch (asked : Fences) (image : List ℕ) (f : FencesFailure) : Type 0 where
+-- the list of places that are accepted is none, or memory was refused
+abbrev pub IsUnlisted : List ℕ → CommandFailure → Type 0
+IsUnlisted accepted (Accept error) = (error ≡ accepting.OutOfMemory) ⊎ (accepted_in accepted ≡ None)
+IsUnlisted accepted _ = ⊥
+
+-- a word names no instruction of the image, or memory was refused
+pub record IsUnplacedSearch (asked : Fences) (image : List ℕ) (f : CommandFailure) : Type 0 where
   pub settings : HuntSettings
   pub numbers : HasNumbers asked.search asked.first asked.plans false settings
   pub unplaced : IsUnplaced (words_of asked) settings image f
 
--- why a search in what the files gave ends: memory was refused or the output failed, the list of places is none, a word names
--- no instruction, or the search is refused
-abbrev pub IsSearchEnd : Fences → List ℕ → List ℕ → Type 0 → FencesFailure → Type 0
-IsSearchEnd asked accepted image failed (failures.Hunt failure) = IsCutEnd failed failure ⊎ IsRefusedSearch asked image failed failure
-IsSearchEnd asked accepted image failed (failures.Accept error) = (error ≡ accepting.OutOfMemory) ⊎ (accepted_in accepted ≡ None)
-IsSearchEnd asked accepted image failed (failures.NoPlace word why) = IsUnplacedSearch asked image (failures.NoPlace word why)
-IsSearchEnd asked accepted image failed (failures.Unwritten path) = ⊥
+-- why a search in what the files gave ends: memory was refused or the output failed, the search is refused, the list of places is none, or a
+-- word names no instruction
+abbrev pub IsSearchEnd : Fences → List ℕ → List ℕ → Type 0 → CommandFailure → Type 0
+IsSearchEnd asked accepted image failed f = IsCutEnd failed f ⊎ IsRefusedSearch asked image failed f ⊎ IsUnlisted accepted f ⊎ IsUnplacedSearch asked image f
 
 -- the search that a line asks for ends so
-pub record EndsSearch (holds : List ℕ → List ℕ → Type 0) (begins : List ℕ → ℕ → List ℕ → Type 0) (asked : Fences) (failed : Type 0) (f : FencesFailure) : Type 0 where
+pub record EndsSearch (holds : List ℕ → List ℕ → Type 0) (begins : List ℕ → ℕ → List ℕ → Type 0) (asked : Fences) (failed : Type 0) (f : CommandFailure) : Type 0 where
   pub image : List ℕ
   pub input : List ℕ
   pub accepted : List ℕ
@@ -108,18 +110,15 @@ pub record EndsSearch (holds : List ℕ → List ℕ → Type 0) (begins : List 
   pub ends : IsSearchEnd asked accepted image failed f
 
 -- a file that is named couldn't be read, memory is refused, or the output failed
-abbrev pub IsWorldEnd : (List ℕ → FileFault → Type 0) → (List ℕ → Type 0) → Type 0 → Type 0 → FencesFailure → Type 0
-IsWorldEnd lacks is_named is_without failed (failures.Hunt failure) = IsFileEnd lacks is_named is_without failure ⊎ IsCutEnd failed failure
-IsWorldEnd lacks is_named is_without failed (failures.Accept error) = ⊥
-IsWorldEnd lacks is_named is_without failed (failures.NoPlace word why) = ⊥
-IsWorldEnd lacks is_named is_without failed (failures.Unwritten path) = ⊥
+abbrev pub IsWorldEnd : (List ℕ → FileFault → Type 0) → (List ℕ → Type 0) → Type 0 → Type 0 → CommandFailure → Type 0
+IsWorldEnd lacks is_named is_without failed f = IsFileFailure lacks is_named is_without f ⊎ IsCutEnd failed f
 
 -- the files that the line names: the program's, and the list
 abbrev pub IsFileOf : Fences → List ℕ → Type 0
 IsFileOf asked path = IsFileOfProgram asked.search.program path ⊎ (accept_of asked ≡ Some path)
 
 -- why the command ends without what it was asked for
-abbrev pub EndsFences : (List ℕ → List ℕ → Type 0) → (List ℕ → ℕ → List ℕ → Type 0) → (List ℕ → FileFault → Type 0) → (List ℕ → Type 0) → Fences → Type 0 → FencesFailure → Type 0
+abbrev pub EndsFences : (List ℕ → List ℕ → Type 0) → (List ℕ → ℕ → List ℕ → Type 0) → (List ℕ → FileFault → Type 0) → (List ℕ → Type 0) → Fences → Type 0 → CommandFailure → Type 0
 EndsFences holds begins lacks wasnt_given asked failed f =
     IsWorldEnd lacks (IsFileOf asked) (LacksSpurious holds begins asked.search.program) failed f ⊎ EndsSearch holds begins asked failed f
     ⊎ IsUnsavedIn wasnt_given (keep_of asked) f

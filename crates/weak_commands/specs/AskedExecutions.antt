@@ -9,16 +9,16 @@ use Rattle.execution_file.specs.Recorded.{Recorded}
 use Rattle.execution_makers.specs.RunFiles.{IsFileOf}
 use Rattle.host_io.specs.declared.error.RunError.TheVariants as refusals
 use Rattle.host_io.specs.declared.load_error.LoadError.{LoadError as ImageCause}
-use Rattle.hunt_commands.specs.Asked.{IsCutEnd, IsFileEnd}
 use Rattle.hunt_commands.specs.Settings.{IsOfProgram}
-use Rattle.hunt_commands.specs.declared.failure.HuntFailure.{HuntFailure}
-use Rattle.hunt_commands.specs.declared.failure.HuntFailure.TheVariants as failures
+use Rattle.program_files.specs.declared.failure.CommandFailure.{CommandFailure}
+use Rattle.program_files.specs.declared.failure.CommandFailure.TheVariants as failures
 use Rattle.hunter.specs.Hunts.{IsImageCause, shrink_fault}
 use Rattle.hunter.specs.declared.error.HuntError.{HuntError}
 use Rattle.hunter.specs.declared.error.HuntError.TheVariants as hunting
 use Rattle.hunter.specs.declared.settings.HuntSettings.{HuntSettings}
 use Rattle.machine.specs.Runs.{after_run}
 use Rattle.program_files.specs.Asked.{IsFileOfRun, IsGiven, IsProgramOf, LacksSpurious, RefusedRun, SetRun}
+use Rattle.program_files.specs.Failures.{IsCutEnd, IsFileFailure}
 use Rattle.program_files.specs.declared.files.FileFault.{FileFault}
 use Rattle.weak_hunter.specs.WeakExecutions.{IsAllowedExecution, IsUnmade}
 use Rattle.weak_hunter.specs.declared.error.WeakHuntError.{WeakHuntError}
@@ -76,35 +76,30 @@ pub record AskedExecution (holds : List ℕ → List ℕ → Type 0) (begins : L
 
 -- the execution of a number is refused: for settings that are out of range, then for the image, for want of memory, or since the checker
 -- doesn't allow it
-pub record RefusedNumber (holds : List ℕ → List ℕ → Type 0) (begins : List ℕ → ℕ → List ℕ → Type 0) (run : Run) (number : ℕ) (f : HuntFailure) : Type 0 where
+pub record RefusedNumber (holds : List ℕ → List ℕ → Type 0) (begins : List ℕ → ℕ → List ℕ → Type 0) (run : Run) (number : ℕ) (f : CommandFailure) : Type 0 where
   pub image : List ℕ
   pub input : List ℕ
   pub given : IsProgramOf holds begins run.program image input
   pub settings : HuntSettings
   pub program : IsOfProgram run.program run.plan.seed settings
   pub error : WeakHuntError
-  pub is_error : f ≡ failures.Refused error
+  pub is_error : f ≡ failures.Hunt error
   pub of_settings : (e : HuntError) → shrink_fault settings ≡ Some e → error ≡ Hunt e
   pub of_image : (cause : ImageCause) → shrink_fault settings ≡ None → IsImageCause settings image cause →
       (error ≡ Hunt (hunting.Run (refusals.Image cause))) ⊎ (error ≡ Hunt (hunting.Run refusals.OutOfMemory))
   pub reason : shrink_fault settings ≡ None → IsUnmade settings image number error
 
--- the run of a line is refused
-abbrev pub IsRefusedRun : (List ℕ → List ℕ → Type 0) → (List ℕ → ℕ → List ℕ → Type 0) → Run → HuntFailure → Type 0
-IsRefusedRun holds begins run (failures.Run failure) = RefusedRun holds begins run ⊥ failure
-IsRefusedRun holds begins run (failures.Refused error) = ⊥
-IsRefusedRun holds begins run (failures.Naming fault) = ⊥
-
-abbrev pub IsRefused : Option ℕ → (List ℕ → List ℕ → Type 0) → (List ℕ → ℕ → List ℕ → Type 0) → Run → HuntFailure → Type 0
-IsRefused None holds begins run f = IsRefusedRun holds begins run f
+-- the run of a line is refused, or the execution of its number
+abbrev pub IsRefused : Option ℕ → (List ℕ → List ℕ → Type 0) → (List ℕ → ℕ → List ℕ → Type 0) → Run → CommandFailure → Type 0
+IsRefused None holds begins run f = RefusedRun holds begins run ⊥ f
 IsRefused (Some number) holds begins run f = RefusedNumber holds begins run number f
 
 -- why the execution isn't made: a file of the line couldn't be read, memory is refused, or what is asked for is
-abbrev pub IsUnmadeFile : (List ℕ → List ℕ → Type 0) → (List ℕ → ℕ → List ℕ → Type 0) → (List ℕ → FileFault → Type 0) → Execution → HuntFailure → Type 0
+abbrev pub IsUnmadeFile : (List ℕ → List ℕ → Type 0) → (List ℕ → ℕ → List ℕ → Type 0) → (List ℕ → FileFault → Type 0) → Execution → CommandFailure → Type 0
 IsUnmadeFile holds begins lacks asked f =
-    IsFileEnd lacks (IsFileOfRun asked.run) (LacksSpurious holds begins asked.run.program) f
+    IsFileFailure lacks (IsFileOfRun asked.run) (LacksSpurious holds begins asked.run.program) f
     ⊎ IsRefused (number_of asked.weak asked.run.plan.number) holds begins asked.run f
 
 -- why the command ends without it: it isn't made, memory is refused, or the output failed
-abbrev pub EndsExecution : (List ℕ → List ℕ → Type 0) → (List ℕ → ℕ → List ℕ → Type 0) → (List ℕ → FileFault → Type 0) → Execution → Type 0 → HuntFailure → Type 0
+abbrev pub EndsExecution : (List ℕ → List ℕ → Type 0) → (List ℕ → ℕ → List ℕ → Type 0) → (List ℕ → FileFault → Type 0) → Execution → Type 0 → CommandFailure → Type 0
 EndsExecution holds begins lacks asked failed f = IsUnmadeFile holds begins lacks asked f ⊎ IsCutEnd failed f

@@ -1,4 +1,3 @@
-pub mod Failures
 pub mod Status
 pub mod Places
 pub mod Saved

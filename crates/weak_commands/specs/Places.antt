@@ -6,18 +6,16 @@ use Rattle.std.specs.Str.{bytes_eq}
 use Rattle.command_line.specs.Reading.{address_in, number_in}
 use Rattle.elf_loader.specs.Symbols.{function_of, has_other_function, has_symbol_table}
 use Rattle.elf_loader.specs.declared.object.Object.{Object}
-use Rattle.weak_commands.specs.declared.failure.FencesFailure.{FencesFailure}
-use Rattle.weak_commands.specs.declared.failure.FencesFailure.TheVariants as failures
-use Rattle.weak_commands.specs.declared.places.Misplaced.{Misplaced}
-use Rattle.weak_commands.specs.declared.places.Misplaced.TheVariants.{Beyond, NoFunction, NoKind, NoSymbols, NotCode, Several, Unreadable}
-use Rattle.host_io.specs.declared.error.RunError.TheVariants as refusals
+use Rattle.program_files.specs.declared.failure.CommandFailure.{CommandFailure}
+use Rattle.program_files.specs.declared.failure.CommandFailure.TheVariants as failures
+use Rattle.program_files.specs.Failures.{out_of_memory}
+use Rattle.program_files.specs.declared.reasons.Misplaced.{Misplaced}
+use Rattle.program_files.specs.declared.reasons.Misplaced.TheVariants.{Beyond, NoFunction, NoKind, NoSymbols, NotCode, Several, Unreadable}
 use Rattle.host_io.specs.declared.load_error.LoadError.{LoadError as ImageCause}
-use Rattle.hunt_commands.specs.declared.failure.HuntFailure.TheVariants as hunts
 use Rattle.hunter.specs.Hunts.{IsImageCause, hunt_fault}
 use Rattle.hunter.specs.declared.settings.HuntSettings.{HuntSettings}
 use Rattle.round_planner.specs.Settings.{image_of}
 use Rattle.pages.specs.declared.access.Range.{Range}
-use Rattle.program_files.specs.declared.failure.RunFailure.TheVariants as runs
 use Rattle.rv64_decode.specs.declared.ordering.FenceSet.{FenceSet}
 use Rattle.timed_machine.specs.declared.assumed.AssumedFence.{AssumedFence}
 
@@ -151,24 +149,18 @@ IsFirstMisplaced file code (first ∷ words) word why =
     ((word ≡ first) × IsFence file code first (Err why))
     ⊎ (((fence : AssumedFence) × IsFence file code first (Ok fence)) × IsFirstMisplaced file code words word why)
 
--- memory was refused
-abbrev pub IsOutOfMemory : FencesFailure → Type 0
-IsOutOfMemory failure = failure ≡ failures.Hunt (hunts.Run (runs.Refused refusals.OutOfMemory))
-
 -- the failure tells this word and this reason
-abbrev pub TellsPlace : List ℕ → Misplaced → FencesFailure → Type 0
-TellsPlace word why (failures.Hunt failure) = ⊥
-TellsPlace word why (failures.Accept error) = ⊥
+abbrev pub TellsPlace : List ℕ → Misplaced → CommandFailure → Type 0
 TellsPlace word why (failures.NoPlace text reason) = (string_bytes text ≡ word) × (reason ≡ why)
-TellsPlace word why (failures.Unwritten path) = ⊥
+TellsPlace word why _ = ⊥
 
-abbrev pub IsNoPlace : List ℕ → Misplaced → FencesFailure → Type 0
-IsNoPlace word why failure = IsOutOfMemory failure ⊎ TellsPlace word why failure
+abbrev pub IsNoPlace : List ℕ → Misplaced → CommandFailure → Type 0
+IsNoPlace word why failure = (failure ≡ out_of_memory) ⊎ TellsPlace word why failure
 
 -- one of the words names none, or memory was refused
-abbrev pub IsMisplaced : List ℕ → List Range → List (List ℕ) → FencesFailure → Type 0
+abbrev pub IsMisplaced : List ℕ → List Range → List (List ℕ) → CommandFailure → Type 0
 IsMisplaced file code words failure =
-    IsOutOfMemory failure
+    (failure ≡ out_of_memory)
     ⊎ ((word : List ℕ) × (why : Misplaced) × IsFirstMisplaced file code words word why × TellsPlace word why failure)
 
 -- ---- the image
@@ -183,6 +175,6 @@ abbrev pub IsAssumed : List (List ℕ) → HuntSettings → List ℕ → List As
 IsAssumed words s file fences = IsTaken s file → AreFences file (image_of s.format file s.pages).code words [] fences
 
 -- one of the words names none, where the settings and the image are taken, or memory was refused
-abbrev pub IsUnplaced : List (List ℕ) → HuntSettings → List ℕ → FencesFailure → Type 0
+abbrev pub IsUnplaced : List (List ℕ) → HuntSettings → List ℕ → CommandFailure → Type 0
 IsUnplaced words s file failure =
-    IsOutOfMemory failure ⊎ (IsTaken s file × IsMisplaced file (image_of s.format file s.pages).code words failure)
+    (failure ≡ out_of_memory) ⊎ (IsTaken s file × IsMisplaced file (image_of s.format file s.pages).code words failure)

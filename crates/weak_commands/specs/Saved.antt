@@ -4,9 +4,9 @@ use Rattle.std.specs.Prelude.{◌≡◌, ◌⊎◌, ℕ, ◌+◌, List, [], ◌�
 use Rattle.std.specs.Fmt.{decimal}
 use Rattle.execution_file.specs.Grammar.{execution}
 use Rattle.execution_file.specs.Recorded.{Recorded}
-use Rattle.weak_commands.specs.Places.{IsOutOfMemory}
-use Rattle.weak_commands.specs.declared.failure.FencesFailure.{FencesFailure}
-use Rattle.weak_commands.specs.declared.failure.FencesFailure.TheVariants.{Accept, Hunt, NoPlace, Unwritten}
+use Rattle.program_files.specs.Failures.{out_of_memory}
+use Rattle.program_files.specs.declared.failure.CommandFailure.{CommandFailure}
+use Rattle.program_files.specs.declared.failure.CommandFailure.TheVariants.{Unwritten}
 
 -- the file of a number in a folder
 abbrev pub path_in : List ℕ → ℕ → List ℕ
@@ -26,17 +26,15 @@ AreSaved given (Some folder) [] before after = after ≡ before
 AreSaved {X} given (Some folder) (e ∷ es) before after = (made : X) × AreGiven given folder 1 (e ∷ es) made after
 
 -- a file of the folder couldn't be made or written, or the folder has no name
-abbrev pub IsUnwrittenIn : (List ℕ → Type 0) → List ℕ → FencesFailure → Type 0
-IsUnwrittenIn wasnt_given folder (Hunt failure) = ⊥
-IsUnwrittenIn wasnt_given folder (Accept error) = ⊥
-IsUnwrittenIn wasnt_given folder (NoPlace word why) = ⊥
+abbrev pub IsUnwrittenIn : (List ℕ → Type 0) → List ℕ → CommandFailure → Type 0
 IsUnwrittenIn wasnt_given folder (Unwritten path) =
     (number : ℕ) × (string_bytes path ≡ path_in folder number) × ((folder ≡ []) ⊎ wasnt_given (string_bytes path))
+IsUnwrittenIn wasnt_given folder _ = ⊥
 
 -- that, or memory was refused
-abbrev pub IsUnsaved : (List ℕ → Type 0) → List ℕ → FencesFailure → Type 0
-IsUnsaved wasnt_given folder failure = IsOutOfMemory failure ⊎ IsUnwrittenIn wasnt_given folder failure
+abbrev pub IsUnsaved : (List ℕ → Type 0) → List ℕ → CommandFailure → Type 0
+IsUnsaved wasnt_given folder failure = (failure ≡ out_of_memory) ⊎ IsUnwrittenIn wasnt_given folder failure
 
-abbrev pub IsUnsavedIn : (List ℕ → Type 0) → Option (List ℕ) → FencesFailure → Type 0
+abbrev pub IsUnsavedIn : (List ℕ → Type 0) → Option (List ℕ) → CommandFailure → Type 0
 IsUnsavedIn wasnt_given None failure = ⊥
 IsUnsavedIn wasnt_given (Some folder) failure = IsUnsaved wasnt_given folder failure

@@ -3,7 +3,6 @@ ghost use Rattle.weak_commands.specs.AskedExecutions.{AskedExecution, EndsExecut
 ghost use Rattle.execution_file.specs.Grammar.{execution};
 ghost use Rattle.execution_file.specs.Views.{as_recorded};
 ghost use Rattle.host_io.specs.Taken.{BeganText};
-ghost use Rattle.hunt_commands.specs.Asked.{IsFileEnd};
 ghost use Rattle.program_files.specs.Asked.{IsFileOfRun, LacksSpurious, RefusedRun, RefusedSetRun};
 ghost use Rattle.program_files.specs.Failures.{HasFailed, IsFileFailure};
 ghost use Rattle.program_files.specs.declared.exit_status.ExitStatus.TheVariants as statuses;
@@ -12,10 +11,10 @@ use crate::makers::WeakExecutions;
 use command_line::{Execution, Run};
 use execution_makers::execution_of_run;
 use execution_scripts::{ExecutionFile, write_execution};
-use hunt_commands::{HuntFailure, program_settings};
+use hunt_commands::program_settings;
 use machine::Observer;
 use program_files::{
-    ExitStatus, Files, Output, ProgressLine, RunFailure, RunFiles, read_program, read_run,
+    CommandFailure, ExitStatus, Files, Output, ProgressLine, RunFiles, read_program, read_run,
     settings_of,
 };
 use std::alloc::Global;
@@ -26,8 +25,8 @@ use std::thread::Threads;
 ///
 /// # Errors
 ///
-/// `Run` where a file can't be read or the output can't be written, and where a run is refused; `Refused` where the execution of a number
-/// is, for the settings and then for the image, or isn't confirmed; the refusal of memory at any time.
+/// `File` where one can't be read, and `NoSpurious`; the refusals of a run; `Hunt` where the execution of a number is refused, for the settings
+/// and then for the image, or isn't confirmed; `SinkFailed`; the refusal of memory at any time.
 pub fn execution_command<
     F: Files,
     O: Output,
@@ -42,7 +41,7 @@ pub fn execution_command<
     asked: &Execution<'_>,
     progress: &mut P,
     out: &mut O,
-) -> Result<ExitStatus, HuntFailure>
+) -> Result<ExitStatus, CommandFailure>
     // All that was printed is the text of the execution that the line asks for.
     ensures prints { IfOk result (λ status.
         (a : AskedExecution (F.holds files.now) (F.begins files.now) W.makes asked.now) ×
@@ -75,7 +74,7 @@ fn asked_execution<
     weakly: &W,
     asked: &Execution<'_>,
     progress: &mut P,
-) -> Result<ExecutionFile, HuntFailure>
+) -> Result<ExecutionFile, CommandFailure>
     ensures asked { IfOk result (λ f.
         IsAskedFile (F.holds files.now) (F.begins files.now) W.makes asked.now (as_recorded f)) }
     ensures errors { IfErr result (IsUnmadeFile (F.holds files.now) (F.begins files.now)
@@ -105,12 +104,13 @@ fn numbered_execution<F: Files, W: WeakExecutions>(
     weakly: &W,
     asked: &Execution<'_>,
     number: u32,
-) -> Result<ExecutionFile, HuntFailure>
+) -> Result<ExecutionFile, CommandFailure>
     ensures numbered { IfOk result (λ f.
         IsNumbered (F.holds files.now) (F.begins files.now) W.makes asked.now.run asked.now.steps
         number
         (as_recorded f)) }
-    ensures errors { IfErr result (λ f. IsFileEnd (F.lacks files.now) (IsFileOfRun asked.now.run)
+    ensures errors { IfErr result (λ f.
+        IsFileFailure (F.lacks files.now) (IsFileOfRun asked.now.run)
         (LacksSpurious (F.holds files.now) (F.begins files.now) asked.now.run.program) f ⊎
         RefusedNumber (F.holds files.now) (F.begins files.now) asked.now.run number f) }
 {
@@ -128,7 +128,7 @@ fn run_as_execution<F: Files, P: Observer + ProgressLine, R: Threads + Wait + Sy
     files: &F,
     run: &Run<'_>,
     progress: &mut P,
-) -> Result<ExecutionFile, RunFailure>
+) -> Result<ExecutionFile, CommandFailure>
     ensures run { IfOk result (λ f.
         IsRun (F.holds files.now) (F.begins files.now) run.now (as_recorded f)) }
     ensures errors { IfErr result (λ f. IsFileFailure (F.lacks files.now) (IsFileOfRun run.now)
@@ -146,7 +146,7 @@ fn run_given<P: Observer + ProgressLine, R: Threads + Wait + Sync>(
     given: &RunFiles,
     run: &Run<'_>,
     progress: &mut P,
-) -> Result<ExecutionFile, RunFailure>
+) -> Result<ExecutionFile, CommandFailure>
     ensures run { IfOk result (λ f.
         IsRunOf run.now.program given.now.plan.text.items given.now.plan.budget
         given.now.program.image.items given.now.program.input.items (as_recorded f)) }

@@ -9,7 +9,6 @@ ghost use Rattle.hunt_commands.specs.Settings.{HasNumbers};
 ghost use Rattle.program_files.specs.Asked.{IsInputOf};
 ghost use Rattle.program_files.specs.Failures.{HasFailed, IsFileFailure};
 
-use crate::failure::FencesFailure;
 use crate::keeping::keep;
 use crate::places::fences_of;
 use crate::searches::FenceSearches;
@@ -22,7 +21,7 @@ use hunt_commands::{named_in, refused_for, settings_of, tell_decimals};
 use hunter::HuntSettings;
 use plan_hunt::Until;
 use program_files::{
-    ExitStatus, Files, Messages, NamedBytes, Output, ProgramFiles, ProgressLine, RunFailure,
+    CommandFailure, ExitStatus, Files, Messages, NamedBytes, Output, ProgramFiles, ProgressLine,
     read_file, read_program,
 };
 use std::alloc::Global;
@@ -34,9 +33,9 @@ use std::thread::Threads;
 ///
 /// # Errors
 ///
-/// `Hunt` where a file can't be read; `Accept` for the list of places that are accepted; `Hunt` for the settings, then `NoPlace` for the
-/// first word that names no instruction of an image that is taken; `Hunt` for the image, for bytes that can't be looked at, and for an
-/// execution that isn't confirmed; then `Unwritten`, and `Hunt` where the output can't be written; the refusal of memory at any time.
+/// `File` where one can't be read, and `NoSpurious`; `Accept` for the list of places that are accepted; `Hunt` for the settings, then `NoPlace`
+/// for the first word that names no instruction of an image that is taken; `Hunt` for the image, and for an execution that isn't confirmed, and
+/// `Naming` for bytes that can't be looked at; then `Unwritten`, and `SinkFailed`; the refusal of memory at any time.
 pub fn fences_command<
     F: Files,
     O: Output,
@@ -53,7 +52,7 @@ pub fn fences_command<
     progress: &P,
     out: &mut O,
     messages: &M,
-) -> Result<ExitStatus, FencesFailure>
+) -> Result<ExitStatus, CommandFailure>
     // All that was printed is the table of the search that the line asks for, of which the status is, and the executions that it keeps were
     // written to the files of the folder that the line names.
     ensures searches { IfOk result (λ status.
@@ -88,7 +87,11 @@ pub fn fences_command<
 }
 
 /// The text of the list of places that are accepted; without a file it is empty.
-fn read_list<F: Files>(files: &F, alloc: Global, path: Option<&str>) -> Result<Vec<u8>, RunFailure>
+fn read_list<F: Files>(
+    files: &F,
+    alloc: Global,
+    path: Option<&str>,
+) -> Result<Vec<u8>, CommandFailure>
     ensures list { IfOk result (λ bytes.
         IsInputOf (F.holds files.now) (option_map (λ s. s.now) path.entry) bytes.items) }
     ensures errors { IfErr result (IsFileFailure (F.lacks files.now)
@@ -134,7 +137,7 @@ fn search_given<
     progress: &P,
     out: &mut O,
     messages: &M,
-) -> Result<FoundFences, FencesFailure>
+) -> Result<FoundFences, CommandFailure>
     ensures searches { IfOk result (λ f.
         (s : SetSearch W.comes_to W.finds asked.now list.now files.now.image.items
         files.now.input.items) ×
@@ -169,7 +172,7 @@ fn search_given<
     match fault {
         Some(fault) => {
             let hunt = &settings.hunt;
-            Err(FencesFailure::Hunt(refused_for(alloc, &files.image, hunt, fault)))
+            Err(refused_for(alloc, &files.image, hunt, fault))
         }
         None => {
             let (image, input) = (files.image.as_slice(), files.input.as_slice());

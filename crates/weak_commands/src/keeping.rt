@@ -4,10 +4,9 @@ ghost use Rattle.execution_file.specs.Grammar.{execution};
 ghost use Rattle.execution_file.specs.Views.{as_recorded};
 ghost use Rattle.weak_commands.specs.Saved.{AreGiven, AreSaved, IsUnsaved, IsUnsavedIn, path_in};
 
-use crate::failure::FencesFailure;
 use execution_scripts::{ExecutionFile, write_execution};
 use host_io::{RunError, Sink};
-use program_files::{FileText, Files};
+use program_files::{CommandFailure, FileText, Files};
 use std::alloc::{AllocError, Global};
 
 /// An execution, as the text of a file.
@@ -35,7 +34,7 @@ pub fn keep<F: Files>(
     alloc: Global,
     folder: Option<&str>,
     executions: &[ExecutionFile],
-) -> Result<(), FencesFailure>
+) -> Result<(), CommandFailure>
     ensures saved { OnOk result (AreSaved F.was_given (option_map (λ s. s.now) folder.entry)
         (map as_recorded executions.now) files.old files.new) }
     ensures unasked { folder.entry ≡ None → files.new ≡ files.old }
@@ -73,7 +72,7 @@ fn keep_in<F: Files>(
     alloc: Global,
     folder: &str,
     executions: &[ExecutionFile],
-) -> Result<(), FencesFailure>
+) -> Result<(), CommandFailure>
     ensures saved { OnOk result (AreSaved F.was_given (Some folder.now)
         (map as_recorded executions.now) files.old files.new) }
     ensures errors { IfErr result (IsUnsaved (F.wasnt_given files.new) folder.now) }
@@ -91,7 +90,7 @@ fn put_each<F: Files>(
     alloc: Global,
     folder: &str,
     executions: &[ExecutionFile],
-) -> Result<(), FencesFailure>
+) -> Result<(), CommandFailure>
     ensures given { OnOk result (AreGiven F.was_given folder.now 1 (map as_recorded executions.now)
         files.old files.new) }
     ensures errors { IfErr result (IsUnsaved (F.wasnt_given files.new) folder.now) }
@@ -109,7 +108,7 @@ fn put<F: Files>(
     folder: &str,
     number: usize,
     file: &ExecutionFile,
-) -> Result<(), FencesFailure>
+) -> Result<(), CommandFailure>
     ensures given { OnOk result (F.was_given files.old files.new (path_in folder.now number)
         (execution.spelled (as_recorded file.now))) }
     ensures errors { IfErr result (IsUnsaved (F.wasnt_given files.new) folder.now) }
@@ -117,12 +116,12 @@ fn put<F: Files>(
     let path = path_of(alloc, folder, number)?;
     if folder.is_empty() {
         // The path is one in the root folder, which nobody asked for.
-        return Err(FencesFailure::Unwritten(path));
+        return Err(CommandFailure::Unwritten(path));
     }
     match files.overwrite(&path, &ExecutionText { file }) {
         Ok(()) => Ok(()),
-        Err(RunError::OutOfMemory) => Err(FencesFailure::from(RunError::OutOfMemory)),
-        Err(_) => Err(FencesFailure::Unwritten(path)),
+        Err(RunError::OutOfMemory) => Err(CommandFailure::from(RunError::OutOfMemory)),
+        Err(_) => Err(CommandFailure::Unwritten(path)),
     }
 }
 

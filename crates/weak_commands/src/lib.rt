@@ -3,7 +3,6 @@
 #![tactic(auto)]
 
 mod executing;
-mod failure;
 mod fences;
 mod finds;
 mod keeping;
@@ -15,10 +14,8 @@ mod status;
 mod telling;
 
 pub use executing::execution_command;
-pub use failure::FencesFailure;
 pub use fences::fences_command;
 pub use finds::FenceFinds;
 pub use keeping::keep;
 pub use makers::{WeakExecuter, WeakExecutions};
-pub use places::Misplaced;
 pub use searches::FenceSearches;

@@ -5,58 +5,16 @@ ghost use Rattle.std.specs.List.{list_all, list_any};
 ghost use Rattle.command_line.specs.Reading.{number_in};
 ghost use Rattle.weak_commands.specs.Places.{AreFences, IsAssumed, IsFence, IsFenceAt, IsInstruction, IsMisplaced, IsNamed, IsNoPlace, IsOfKind, IsUnplaced, address_of, between, full_before, has_address, is_instruction, on_code, place_in, printed_pc, set_of};
 
-use crate::failure::FencesFailure;
 use command_line::address_in;
 use elf_loader::{find_function, has_other_function, has_symbol_table};
 use host_io::RunError;
 use hunter::{HuntSettings, check_hunt};
 use machine::load;
 use pages::Range;
-use program_files::Messages;
+use program_files::{CommandFailure, Messages, Misplaced};
 use rv64_decode::FenceSet;
 use std::alloc::{AllocFailed, Global};
 use timed_machine::AssumedFence;
-
-/// Why a word names no fence.
-#[derive(Clone, Copy)]
-pub enum Misplaced {
-    /// It is neither an address nor a place in a function.
-    Unreadable,
-    /// It names a function, and the image has no symbol table.
-    NoSymbols,
-    /// The symbol table has no function of this name.
-    NoFunction,
-    /// The symbol table has several functions of this name, at different addresses.
-    Several,
-    /// The function ends before this place.
-    Beyond,
-    /// There is no instruction at this address.
-    NotCode,
-    /// What is behind `=` is no kind of fence.
-    NoKind,
-}
-
-impl Misplaced {
-    /// What is said of it.
-    pub(crate) fn words(self) -> &'static str {
-        match self {
-            Misplaced::Unreadable => {
-                "name an instruction as fences prints it, by its PC of 16 digits or as FUNCTION+0xOFFSET, or by an address, as 0x1068"
-            }
-            Misplaced::NoSymbols => {
-                "the image has no symbol table, which would say where the function is"
-            }
-            Misplaced::NoFunction => "the image's symbol table has no such function",
-            Misplaced::Several => {
-                "the image's symbol table has several functions of this name: name the instruction by its address"
-            }
-            Misplaced::Beyond => "the function ends before it",
-            Misplaced::NotCode => "the image has no instruction there",
-            Misplaced::NoKind =>
-                "name the kind of fence behind = as assemblers write it, as w,r or rw,w",
-        }
-    }
-}
 
 /// The fences that words name. Settings and an image that are refused for themselves are left to the search. It is
 /// told where two of the words name the same instruction.
@@ -70,7 +28,7 @@ pub(crate) fn fences_of<M: Messages>(
     settings: &HuntSettings,
     file: &[u8],
     messages: &M,
-) -> Result<Vec<AssumedFence>, FencesFailure>
+) -> Result<Vec<AssumedFence>, CommandFailure>
     ensures assumed { IfOk result (λ fences.
         IsAssumed (map (λ s. s.now) words.now) settings.now file.now fences.items) }
     ensures errors { IfErr result (IsUnplaced (map (λ s. s.now) words.now) settings.now file.now) }
@@ -83,7 +41,7 @@ pub(crate) fn fences_of<M: Messages>(
     };
     match load(alloc, settings.format, file, settings.pages) {
         Ok(image) => fences_in(alloc, words, file, image.code(), messages),
-        Err(RunError::OutOfMemory) => Err(FencesFailure::from(RunError::OutOfMemory)),
+        Err(RunError::OutOfMemory) => Err(CommandFailure::from(RunError::OutOfMemory)),
         Err(_) => Ok(Vec::new(alloc)),
     }
 }
@@ -95,7 +53,7 @@ fn fences_in<M: Messages>(
     file: &[u8],
     code: &[Range],
     messages: &M,
-) -> Result<Vec<AssumedFence>, FencesFailure>
+) -> Result<Vec<AssumedFence>, CommandFailure>
     ensures named { IfOk result (λ fences.
         AreFences file.now code.now (map (λ s. s.now) words.now) [] fences.items) }
     ensures errors { IfErr result (IsMisplaced file.now code.now (map (λ s. s.now) words.now)) }
@@ -133,12 +91,12 @@ fn has_fence_at(fences: &[AssumedFence], pc: u64) -> bool {
 }
 
 /// The failure of a word that names no fence.
-fn no_place(alloc: Global, word: &str, why: Misplaced) -> FencesFailure
+fn no_place(alloc: Global, word: &str, why: Misplaced) -> CommandFailure
     ensures { IsNoPlace word.now why result }
 {
     match String::from_str(alloc, word) {
-        Ok(word) => FencesFailure::NoPlace(word, why),
-        Err(_) => FencesFailure::from(RunError::OutOfMemory),
+        Ok(word) => CommandFailure::NoPlace(word, why),
+        Err(_) => CommandFailure::from(RunError::OutOfMemory),
     }
 }
 

@@ -1,6 +1,12 @@
-use Rattle.std.proofs.Common.{inr}
+use Rattle.std.proofs.Common.{inr, inl}
+use Rattle.std.proofs.lemmas.Result.{err_from_is_err_and}
 use Rattle.program_files.proofs.Told.{on_error, on_value}
 use Rattle.debug_commands.proofs.debuggee.opened.Goals as goal
+
+pub returns-in_err-past-clause-errors : goal.returns-in_err-past-clause-errors
+returns-in_err-past-clause-errors g c =
+    let p = err_from_is_err_and c.from_residual.result c.from_residual.ensures.1 in
+    rw (p.1, p.2) (inl c.in_err-past.ensures.errors)
 
 pub returns-clause-opens : goal.returns-clause-opens
 returns-clause-opens g c =

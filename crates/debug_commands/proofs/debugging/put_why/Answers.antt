@@ -1,6 +1,6 @@
 use Rattle.std.proofs.Common.{◌≡◌, ◌∙◌, ◌++◌, List, ap, subst, ℕ}
 use Rattle.host_io.specs.Taken.{BeganText}
-use Rattle.past_commands.specs.Failures.{failure_number}
+use Rattle.program_files.specs.Failures.{failure_number}
 use Rattle.debug_commands.specs.Debugged.{error_line}
 use Rattle.debug_commands.proofs.Told.{began_either, told_line, told_words}
 use Rattle.debug_commands.proofs.debugging.put_why.Goals as goal

@@ -1,7 +1,7 @@
 use Rattle.std.proofs.Common.{◌≡◌, None, Option, inr, subst}
 use Rattle.program_files.proofs.Begun.{on_err}
 use Rattle.hunt_comparison.specs.Unlikes.{IsUnlikeness}
-use Rattle.hunt_comparison.specs.declared.unlike.Unlike.{Unlike}
+use Rattle.program_files.specs.declared.reasons.Unlike.{Unlike}
 use Rattle.hunt_comparison.proofs.comparing.put_compared.Goals as goal
 
 pub returns-in_err-write_comparison-clause-begun : goal.returns-in_err-write_comparison-clause-begun

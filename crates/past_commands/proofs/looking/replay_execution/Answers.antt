@@ -15,7 +15,7 @@ returns-clause-answers c =
     let none : is_some asked.round ≡ false = cc (c.is_some.ensures, c.in_ok-refuse_rounds.ensures.ok) in
     IfOk-weaker c.answer_checked.result _ _ (λ a h. record {
       file = file;
-      says = c.in_ok-file.ensures.says;
+      says = c.in_ok-file.ensures.reads;
       no_rounds = none_of asked.round none;
       workers = c.in_ok-refuse_workers.ensures.ok;
       checked = checked;
@@ -29,7 +29,7 @@ returns-clause-errors c =
     let none : is_some asked.round ≡ false = cc (c.is_some.ensures, c.in_ok-refuse_rounds.ensures.ok) in
     on_error c.answer_checked.result _ _ (λ f h. inr (
       as_recorded c.in_ok-file.file,
-      c.in_ok-file.ensures.says,
+      c.in_ok-file.ensures.reads,
       record {
         of_rounds = λ is_true. absurd (clash (is_some asked.round) none is_true);
         of_workers = λ is_false bad. absurd (no_workers asked.workers c.in_ok-refuse_workers.ensures.ok bad);

@@ -9,7 +9,7 @@ pub returns-clause-watches : goal.returns-clause-watches
 returns-clause-watches c =
     IfOk-weaker c.watch_checked.result _ _ (λ w h. record {
       file = as_recorded c.in_ok-file.file;
-      says = c.in_ok-file.ensures.says;
+      says = c.in_ok-file.ensures.reads;
       no_from = c.in_ok-refuse_some_rounds.ensures.from;
       no_to = c.in_ok-refuse_some_rounds.ensures.to;
       workers = c.in_ok-refuse_workers.ensures.ok;
@@ -24,7 +24,7 @@ returns-clause-errors c =
     let none = neither asked.from asked.to c.in_ok-refuse_some_rounds.ensures.from c.in_ok-refuse_some_rounds.ensures.to in
     on_error c.watch_checked.result _ _ (λ f h. inr (
       as_recorded c.in_ok-file.file,
-      c.in_ok-file.ensures.says,
+      c.in_ok-file.ensures.reads,
       record {
         of_rounds = λ is_true. absurd (clash (is_some asked.from || is_some asked.to) none is_true);
         of_workers = λ is_false bad. absurd (no_workers asked.workers c.in_ok-refuse_workers.ensures.ok bad);

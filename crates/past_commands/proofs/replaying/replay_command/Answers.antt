@@ -1,7 +1,12 @@
 use Rattle.std.proofs.Common.{ap, inl, inr}
-use Rattle.std.proofs.lemmas.Result.{IfErr-weaker, IfOk-weaker, on_err_weaker}
-use Rattle.past_commands.specs.Failures.{failure_number}
+use Rattle.std.proofs.lemmas.Result.{IfErr-weaker, IfOk-weaker, err_from_is_err_and, on_err_weaker}
+use Rattle.program_files.specs.Failures.{failure_number}
 use Rattle.past_commands.proofs.replaying.replay_command.Goals as goal
+
+pub returns-in_err-past-clause-errors : goal.returns-in_err-past-clause-errors
+returns-in_err-past-clause-errors g c =
+    let p = err_from_is_err_and c.from_residual.result c.from_residual.ensures.1 in
+    rw (p.1, p.2) (inl c.in_err-past.ensures.errors)
 
 pub returns-clause-answers : goal.returns-clause-answers
 returns-clause-answers g c =

@@ -1,6 +1,6 @@
 use Rattle.std.proofs.Common.{◌≡◌, ◌∙◌, None, Option, Some, ap, inl, inr, refl, subst, true, ⊎_elim}
 use Rattle.std.proofs.lemmas.Result.{err_from_is_err_and}
-use Rattle.weak_commands.proofs.Ended.{refusal_so, unplaced_so}
+use Rattle.weak_commands.proofs.Ended.{refusal_so}
 use Rattle.hunt_commands.specs.Settings.{IsNamed}
 use Rattle.hunt_commands.proofs.Ranges.{none_bad, ranges_so}
 use Rattle.hunt_commands.proofs.Refused.{fault_so, told_so}
@@ -11,11 +11,12 @@ use Rattle.weak_commands.proofs.fences.search_given.Goals as goal
 
 pub returns-in_err-assumed-clause-errors : goal.returns-in_err-assumed-clause-errors
 returns-in_err-assumed-clause-errors g c =
-    let asked = c.args.asked.now in
-    let image = c.args.files.now.image.items in
     let p = err_from_is_err_and c.from_residual-in_err-assumed.result c.from_residual-in_err-assumed.ensures.1 in
-    let numbers = c.with_end-hunt.ensures.numbers c.in_ok-hunt.ensures.numbers in
-    rw (p.1, p.2) (unplaced_so asked c.args.list.now image c.with_end-hunt.result _ _ numbers (rw (c.deref-2.ensures.value, c.deref-3.ensures.value) at c.in_err-assumed.ensures.errors))
+    rw (p.1, p.2) (inr (inr (inr (record {
+      settings = c.with_end-hunt.result;
+      numbers = c.with_end-hunt.ensures.numbers c.in_ok-hunt.ensures.numbers;
+      unplaced = rw (c.deref-2.ensures.value, c.deref-3.ensures.value) at c.in_err-assumed.ensures.errors;
+    }))))
 
 pub returns-in-Some-clause-errors : goal.returns-in-Some-clause-errors
 returns-in-Some-clause-errors g c =
@@ -24,12 +25,12 @@ returns-in-Some-clause-errors g c =
     let s = c.with_end-hunt.result in
     let is : c.in_ok-bytes.field-0.fault ≡ Some c.in-Some.fault = cc in
     let named = subst (λ (f : Option NamingFault). IsNamed asked.search image f) is c.in_ok-bytes.ensures.fault in
-    inr (record {
+    inr (inl (record {
       settings = s;
       numbers = c.with_end-hunt.ensures.numbers c.in_ok-hunt.ensures.numbers;
       refused = fault_so asked.search true (hunt_fault s) s image _ c.in-Some.fault c.refused_for.result named c.refused_for.ensures.settings
           (rw c.deref-in-Some.ensures.value at c.refused_for.ensures.image) (rw c.deref-in-Some.ensures.value at c.refused_for.ensures.reason);
-    })
+    }))
 
 pub returns-in_err-answer-in-None-clause-begun : goal.returns-in_err-answer-in-None-clause-begun
 returns-in_err-answer-in-None-clause-begun g c =
@@ -77,13 +78,13 @@ returns-in_err-answer-in-None-clause-errors g c =
     let e = c.in_err-answer-in-None.field-0.0 in
     let good = none_bad asked.search image bytes s numbers.program.pages there named ranges in
     let p = err_from_is_err_and c.from_residual-in_err-answer-in-None.result c.from_residual-in_err-answer-in-None.ensures.1 in
-    rw (p.1, p.2) (inr (record {
+    rw (p.1, p.2) (inr (inl (record {
       settings = s;
       numbers = numbers;
       refused = told_so asked.search true (hunt_fault s) s image _ e good c.in_err-answer-in-None.ensures.settings
           (λ none. refusal_so s image _ _ e (λ more. inl more) (rw c.as_slice-image.ensures.value at (c.in_err-answer-in-None.ensures.errors none)))
           (rw c.as_slice-image.ensures.value at c.in_err-answer-in-None.ensures.image);
-    }))
+    })))
 
 pub returns-clause-searches : goal.returns-clause-searches
 returns-clause-searches g c =

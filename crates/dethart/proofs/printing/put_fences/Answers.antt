@@ -1,5 +1,0 @@
-use Rattle.dethart.proofs.Answered.{finished}
-use Rattle.dethart.proofs.printing.put_fences.Goals as goal
-
-pub returns : goal.returns
-returns g c = finished c.fences_command-answer.result _ c.finish_printing.result c.finish_printing.ensures.done c.finish_printing.ensures.refused c.fences_command-answer.ensures.searches
