@@ -10,6 +10,7 @@ mod following;
 mod owing;
 mod place;
 mod reaching;
+mod serving;
 mod walking;
 
 pub use following::{Against, Omission};

@@ -1,0 +1,10 @@
+pub mod Waiting
+pub mod Marked
+pub mod Rounds
+pub mod Placed
+pub mod Watched
+pub mod Order
+pub mod Nearer
+pub mod Covered
+pub mod Passed
+pub mod Told
