@@ -2,6 +2,5 @@ pub mod Bounds
 pub mod Constants
 pub mod Following
 pub mod Found
-pub mod Serving
 pub mod Spots
 pub mod Walks

@@ -10,7 +10,6 @@ mod following;
 mod owing;
 mod place;
 mod reaching;
-mod serving;
 mod walking;
 
 pub use following::{Against, Omission};

@@ -1,2 +1,0 @@
-pub mod Halting
-pub mod Told
