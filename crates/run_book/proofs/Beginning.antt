@@ -34,7 +34,7 @@ module _ (E : Type 0) where
       (λ ne. let r = one_numbered harts (suc a) n k (omega arith) (omega arith) in let o = numbered_other k (newcomer {E = E} harts a) ne in omega arith)
 
 module _ {S E : Type 0} (items : S → List E) (room : S → ℕ) (hart seat : E → ℕ) (size : Size) where
-  new_fits : (a n : ℕ) → a + n ≡ size.seats → Each (Fits items room hart seat size [] [] [] [] 0 0 0) (newcomers_from size.harts a n)
+  new_fits : (a n : ℕ) → a + n ≡ size.seats → Each (Fits items room hart seat size [] [] [] [] 1 0 0) (newcomers_from size.harts a n)
   new_fits a zero e = tt
   new_fits a (suc n) e = (
     record {
@@ -50,12 +50,12 @@ module _ {S E : Type 0} (items : S → List E) (room : S → ℕ) (hart seat : E
     new_fits (suc a) n (omega arith),
   )
 
-  first_fits : (vs : View E) (j : ℕ) (v : View E) → Each (Fits items room hart seat size [] [] [] [] 0 0 0) vs → get_elem? (vs ∷ []) j ≡ some v → Each (Fits items room hart seat size [] [] [] [] 0 0 0) v
-  first_fits vs zero v e at = subst (Each (Fits items room hart seat size [] [] [] [] 0 0 0)) (some-injective vs v at) e
+  first_fits : (vs : View E) (j : ℕ) (v : View E) → Each (Fits items room hart seat size [] [] [] [] 1 0 0) vs → get_elem? (vs ∷ []) j ≡ some v → Each (Fits items room hart seat size [] [] [] [] 1 0 0) v
+  first_fits vs zero v e at = subst (Each (Fits items room hart seat size [] [] [] [] 1 0 0)) (some-injective vs v at) e
   first_fits vs (suc j) v e at = absurd (some-ne-none v (sym at))
 
   pub opens : size.harts < 2 ^ 32 → size.seats < 2 ^ 32 → (v : S) → items v ≡ [] → size.harts ≤ room v
-      → BookHolds items room hart seat size (opening (0 ∷ 0 ∷ []) (v ∷ []) (newcomers size.harts size.seats))
+      → BookHolds items room hart seat size (opening (1 ∷ 0 ∷ []) (v ∷ []) (newcomers size.harts size.seats))
   opens harts seats v empty wide = let h = none_held E size.harts 0 size.seats in let a = all_new E size.harts 0 size.seats in record {
     owners = [];
     log = [];
@@ -67,16 +67,16 @@ module _ {S E : Type 0} (items : S → List E) (room : S → ℕ) (hart seat : E
     counts = refl;
     begun = omega arith;
     low = omega arith;
-    small = (harts, seats);
-    counted = omega arith;
+    small = (harts, seats, omega arith);
     log_is = refl;
+    taken = omega arith;
     entries = tt;
     whose = tt;
     apart = tt;
     here = tt;
     settled = λ u k lt. absurd (omega arith);
-    free = λ z. (v, refl, empty, wide);
-    locked = omega arith;
+    free = λ z. (refl, omega arith, (v, refl, empty, wide));
+    locked = λ z. absurd (omega arith);
     seats = λ k b. let o = one_numbered E size.harts 0 size.seats k (omega arith) (omega arith) in omega arith;
     all = omega arith;
     fits = λ j u at. first_fits (newcomers size.harts size.seats) j u (new_fits 0 size.seats (omega arith)) at;

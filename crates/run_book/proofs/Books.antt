@@ -27,7 +27,7 @@ module _ {E : Type 0} where
 
 module _ {S E : Type 0} where
   -- a seat just dealt out knows nothing
-  pub counted_new : (m : Me S (View E)) (v : View E) (harts number : ℕ) (later : View E) → m ≡ (first_of v, []) → v ≡ newcomer harts number ∷ later → Counted m number harts 0 0
+  pub counted_new : (m : Me S (View E)) (v : View E) (harts number : ℕ) (later : View E) → m ≡ (first_of v, []) → v ≡ newcomer harts number ∷ later → Counted m number harts 0 0 0
   counted_new m v harts number later is v_is =
       let at : m.0 ≡ newcomer harts number ∷ [] = ap (λ n. n.0) is ∙ ap first_of v_is in
       let x : newcomer harts number ≡ sitter m.0 = sym (ap sitter at) in
@@ -41,6 +41,7 @@ module _ {S E : Type 0} where
         harts_are = ap (λ z. z.harts) x;
         round_is = ap (λ z. z.round) x;
         own_is = ap (λ z. length z.own) x;
+        seen_is = ap (λ z. length z.seen) x;
       }
 
   pub new_sitter : (m : Me S (View E)) (v : View E) (harts number : ℕ) (later : View E) → m ≡ (first_of v, []) → v ≡ newcomer harts number ∷ later → sitter m.0 ≡ newcomer harts number

@@ -28,8 +28,8 @@ module _ {S E : Type 0} (items : S → List E) (room : S → ℕ) (hart seat : E
 
   -- the next turn is claimed, of this round
   claim_one : (s : State S (View E)) (k : BookHolds items room hart seat size s) (id : ℕ) (x : Sitter E) (n round : ℕ) → get_elem? s.views id ≡ some (x ∷ [])
-      → get_or s.words 1 0 ≡ n → round * 4294967296 ≤ n → n < round * 4294967296 + size.harts → n + 1 < 2 ^ 64 → (cs : List (ℕ × S)) → BookHolds items room hart seat size (stepped s 1 (n + 1) id cs (with_claim n x ∷ []) keeps)
-  claim_one s k id x n round at now le lt low_word cs =
+      → get_or s.words 1 0 ≡ n → round * 4294967296 ≤ n → n < round * 4294967296 + size.harts → (cs : List (ℕ × S)) → BookHolds items room hart seat size (stepped s 1 (n + 1) id cs (with_claim n x ∷ []) keeps)
+  claim_one s k id x n round at now le lt cs =
       let f = (k.fits id (x ∷ []) at).0 in
       let y : Sitter E = with_claim n x in
       let count : n ≡ length k.owners = sym now ∙ k.counts in
@@ -57,8 +57,8 @@ module _ {S E : Type 0} (items : S → List E) (room : S → ℕ) (hart seat : E
         begun = omega arith;
         low = omega arith;
         small = k.small;
-        counted = omega arith;
         log_is = k.log_is;
+        taken = k.taken;
         entries = each_map (λ e. get_elem? k.owners (hart e) ≡ some (seat e)) (λ e. get_elem? owners (hart e) ≡ some (seat e)) k.log
             (λ e e_at. at_longer k.owners (x.number ∷ []) (hart e) (seat e) e_at) k.entries;
         whose = k.whose;
@@ -66,8 +66,8 @@ module _ {S E : Type 0} (items : S → List E) (room : S → ℕ) (hart seat : E
         here = k.here;
         settled = λ t o before is_o seated. ⊎_elim (λ old. k.settled t o before old seated) (λ (e : (t ≡ length k.owners) × (x.number ≡ o)). let here = e.0 in absurd (omega arith))
             (elem_snoc k.owners x.number o t is_o);
-        free = λ z. k.free (sym lock ∙ z);
-        locked = lock ∙ (k.locked ∙ sym held_same);
+        free = λ z. let f = k.free (omega arith) in (lock ∙ f.0, held_same ∙ f.1, f.2);
+        locked = λ z. held_same ∙ k.locked (sym lock ∙ z);
         seats = λ o b. same_sum (numbered o) s.views id (x ∷ []) (y ∷ []) at refl ∙ k.seats o b;
         all = same_sum one s.views id (x ∷ []) (y ∷ []) at refl ∙ k.all;
         fits = subst (λ (l : ℕ). (j : ℕ) (v : View E) → get_elem? (set s.views id (y ∷ [])) j ≡ some v → Each (Q l) v) (sym lock)
@@ -97,15 +97,15 @@ module _ {S E : Type 0} (items : S → List E) (room : S → ℕ) (hart seat : E
             }));
       }
 
-  pub claims : (slots id : ℕ) (m : Me S (View E)) (old new round : ℕ) → AtRest m → new ≡ old + 1 → round * 4294967296 ≤ old → old < round * 4294967296 + size.harts → new < 2 ^ 64
+  pub claims : (slots id : ℕ) (m : Me S (View E)) (old new round : ℕ) → AtRest m → new ≡ old + 1 → round * 4294967296 ≤ old → old < round * 4294967296 + size.harts
       → Allows (BookHolds items room hart seat size) slots id m 1 (λ n. either (eqb n old) new n) (Claimed items room hart seat (step slots 1 old new none) m)
-  claims slots id m old new round rest next le lt low_word s k long at fits_word =
+  claims slots id m old new round rest next le lt s k long at fits_word =
       let x : Sitter E = sitter m.0 in
       let n : ℕ = get_or s.words 1 0 in
       let at' : get_elem? s.views id ≡ some (x ∷ []) = at ∙ ap some rest.alone in
       let f = (k.fits id (x ∷ []) at').0 in
       dite (ℕ_discrete n old)
-      (λ same. let b = claim_one s k id x n round at' refl (omega arith) (omega arith) (omega arith) m.1 in (
+      (λ same. let b = claim_one s k id x n round at' refl (omega arith) (omega arith) m.1 in (
         with_claim n x ∷ [],
         keeps,
         tt,

@@ -56,15 +56,15 @@ module _ {S E : Type 0} (items : S → List E) (room : S → ℕ) (hart seat : E
     begun = k.begun;
     low = k.low;
     small = k.small;
-    counted = k.counted;
     log_is = k.log_is;
+    taken = k.taken;
     entries = k.entries;
     whose = k.whose;
     apart = k.apart;
     here = k.here;
     settled = k.settled;
-    free = k.free;
-    locked = k.locked ∙ sym sums.held_are;
+    free = λ z. let f = k.free z in (f.0, sums.held_are ∙ f.1, f.2);
+    locked = λ z. sums.held_are ∙ k.locked z;
     seats = λ o b. sums.numbered_are o ∙ k.seats o b;
     all = sums.all_are ∙ k.all;
     fits = fits;

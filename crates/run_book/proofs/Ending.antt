@@ -21,6 +21,9 @@ use Rattle.run_book.proofs.Moves.{made}
 use Rattle.run_book.proofs.Pages.{page_apart, page_entries}
 use Rattle.run_book.proofs.Sums.{held_by, held_one, length_in, none_numbered, numbered_at, numbered_other, numbered_self, sum_in_append, sum_le, sum_set}
 
+not_none : (n : ℕ) → (n ≡ 0 → ⊥) → 0 < n
+not_none n ne = dite (ℕ_discrete n 0) (λ e. absurd (ne e)) (λ e. omega arith)
+
 -- nothing came off the end of a list
 pub none_popped : (n : ℕ) → (0 < n → false ≡ true) → n ≡ 0
 none_popped n deny = dite (dec_le n 0) (λ le. omega arith) (λ gt. absurd (true≢false (sym (deny (lt_of_not-le gt)))))
@@ -126,9 +129,7 @@ module _ {S E : Type 0} (items : S → List E) (room : S → ℕ) (hart seat : E
       let as_many : length ks ≡ length view = ap (λ (l : List (Known E)). length l) are ∙ as_long t view in
       let all : sum_of one s.views ≡ sum_in one view = k.all ∙ (sym long ∙ (as_many ∙ sym (length_in view))) in
       let held_here = all_here held s.views id view held_one at all in
-      let locked = k.locked in
-      let free : get_or s.words 0 0 ≡ 0 = omega arith in
-      let slot = k.free free in
+      let slot = (k.free (not_none (get_or s.words 0 0) (λ z. let locked = k.locked z in omega arith))).2 in
       let same : slot.0 ≡ v = some-injective slot.0 v (sym (final.4 0 slot.0 slot.1) ∙ taken) in
       let page_is : k.page ≡ items v = sym slot.2 ∙ ap items same in
       let P : Sitter E → Type 0 = Fits items room hart seat size k.owners k.log k.gone k.page (get_or s.words 0 0) k.who k.round in

@@ -1,5 +1,5 @@
 -- What stands in the slot: turns of the open round alone, apart, and so no more than there are harts.
-use Rattle.std.proofs.Common.{◌≡◌, ℕ, ◌-◌, ◌*◌, ◌<◌, ◌≤◌, true, false, List, ◌++◌, length, sym, ap, ◌∙◌, subst, arith, lt_of_not-le}
+use Rattle.std.proofs.Common.{◌≡◌, ℕ, ◌-◌, ◌*◌, ◌+◌, ◌<◌, ◌≤◌, true, false, List, ◌++◌, length, length-append, sym, ap, ◌∙◌, subst, arith, lt_of_not-le}
 use mathlib.Core.Option.{some}
 use mathlib.Core.Logic.{dite}
 use mathlib.Core.List.{map-append}
@@ -40,6 +40,10 @@ module _ {S E : Type 0} (items : S → List E) (room : S → ℕ) (hart seat : E
 
   pub few : length k.page ≤ claimed_now
   few = let f = few_between (harts_of hart seat k.page) first claimed_now page_apart page_between in let l = length_harts hart seat k.page in omega arith
+
+  -- the history has fewer entries than there are turns up to the round's end, by one a round at least
+  pub log_few : length k.log + k.round + 1 ≤ k.round * 4294967296 + 4294967296
+  log_few = let f = few in let b = k.begun in let l = k.low in let t = k.taken in let s = k.small.0 in let a = ap (λ (l : List E). length l) k.log_is ∙ length-append k.gone k.page in omega arith
 
   -- what a seat claimed and nobody has put is of the open round
   pub unput_here : (h o : ℕ) → get_elem? k.owners h ≡ some o → o < size.seats → has (harts_of hart seat k.log) h ≡ false → first ≤ h

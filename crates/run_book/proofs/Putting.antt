@@ -20,15 +20,15 @@ head_or d [] = d
 head_or d (x ∷ xs) = x.1
 
 module _ {S E : Type 0} (items : S → List E) (room : S → ℕ) (hart seat : E → ℕ) where
-  pub carried : (x : Sitter E) (m n : Me S (View E)) → GotLock items room hart seat x m n → m.1 ≡ [] → (v : S) × (n.1 ≡ (0, v) ∷ rest n.1)
-  carried x m n got empty =
+  pub carried : (position : ℕ) (x : Sitter E) (m n : Me S (View E)) → GotLock items room hart seat position x m n → m.1 ≡ [] → (v : S) × (n.1 ≡ (0, v) ∷ rest n.1)
+  carried position x m n got empty =
       let one : n.1 ≡ (0, got.found) ∷ [] = got.carries ∙ ap (λ (cs : List (ℕ × S)). (0, got.found) ∷ cs) empty in
       (got.found, one ∙ sym (ap (λ (cs : List (ℕ × S)). (0, got.found) ∷ rest cs) one))
 
   -- the lock was got, and the slot's value was changed for another
-  pub has_taken : (x : Sitter E) (m n p : Me S (View E)) (now blank : S) → GotLock items room hart seat x m n → m.1 ≡ [] → n.1 ≡ (0, now) ∷ rest n.1 → p ≡ (n.0, (0, blank) ∷ rest n.1)
-      → HasTaken items room hart seat x now blank p
-  has_taken x m n p now blank got empty lent given =
+  pub has_taken : (position : ℕ) (x : Sitter E) (m n p : Me S (View E)) (now blank : S) → GotLock items room hart seat position x m n → m.1 ≡ [] → n.1 ≡ (0, now) ∷ rest n.1 → p ≡ (n.0, (0, blank) ∷ rest n.1)
+      → HasTaken items room hart seat position x now blank p
+  has_taken position x m n p now blank got empty lent given =
       let one : n.1 ≡ (0, got.found) ∷ [] = got.carries ∙ ap (λ (cs : List (ℕ × S)). (0, got.found) ∷ cs) empty in
       let same : got.found ≡ now = ap (head_or got.found) (sym one ∙ lent) in
       let sits : n.0 ≡ with_lock (got.before ++ items now) (items now) x ∷ [] = got.sees ∙ ap (λ (v : S). with_lock (got.before ++ items v) (items v) x ∷ []) same in
@@ -36,7 +36,7 @@ module _ {S E : Type 0} (items : S → List E) (room : S → ℕ) (hart seat : E
         before = got.before;
         is = given ∙ (ap (λ (v : View E). (v, (0, blank) ∷ rest n.1)) sits
             ∙ ap (λ (cs : List (ℕ × S)). (with_lock (got.before ++ items now) (items now) x ∷ [], (0, blank) ∷ rest cs)) one);
-        finds = subst (Finds items room hart seat x got.before) same got.finds;
+        finds = subst (Finds items room hart seat x position got.before) same got.finds;
       }
 
   -- a place with one sitter and the slot in hand
@@ -54,9 +54,10 @@ module _ {S E : Type 0} (items : S → List E) (room : S → ℕ) (hart seat : E
   same_value z b v w is has_w = let slots : b.1 ≡ (0, v) ∷ [] = ap (λ (m : Me S (View E)). m.1) is in ap (head_or v) (sym has_w ∙ slots)
 
   -- a seat that is at rest again, with the number and the harts that it had
-  pub counts_after : (x y : Sitter E) (m p : Me S (View E)) (number harts round next own more : ℕ) → x ≡ sitter m.0 → Counted m number harts round own → p.0 ≡ y ∷ [] → p.1 ≡ []
-      → y.holding ≡ false → y.number ≡ x.number → y.harts ≡ x.harts → next ≡ y.round → more ≡ length y.own → Counted p number harts next more
-  counts_after x y m p number harts round next own more is c at empty idle same_number same_harts next_is more_is =
+  pub counts_after : (x y : Sitter E) (m p : Me S (View E)) (number harts round next own more seen now_seen : ℕ) → x ≡ sitter m.0 → Counted m number harts round own seen → p.0 ≡ y ∷ [] → p.1 ≡ []
+      → y.holding ≡ false → y.number ≡ x.number → y.harts ≡ x.harts → next ≡ y.round → more ≡ length y.own → now_seen ≡ length y.seen
+      → Counted p number harts next more now_seen
+  counts_after x y m p number harts round next own more seen now_seen is c at empty idle same_number same_harts next_is more_is seen_is =
       let at_y : y ≡ sitter p.0 = sym (ap sitter at) in
       record {
         rest = record {
@@ -68,6 +69,7 @@ module _ {S E : Type 0} (items : S → List E) (room : S → ℕ) (hart seat : E
         harts_are = c.harts_are ∙ (ap (λ (z : Sitter E). z.harts) (sym is) ∙ (sym same_harts ∙ ap (λ (z : Sitter E). z.harts) at_y));
         round_is = next_is ∙ ap (λ (z : Sitter E). z.round) at_y;
         own_is = more_is ∙ ap (λ (z : Sitter E). length z.own) at_y;
+        seen_is = seen_is ∙ ap (λ (z : Sitter E). length z.seen) at_y;
       }
 
   -- the seat that has taken the history, and after its put, and after it has ended a round or tried to
@@ -100,17 +102,26 @@ module _ {S E : Type 0} (items : S → List E) (room : S → ℕ) (hart seat : E
       let sum = length-append x.own (e ∷ []) in
       omega arith
 
-  pub fits_more : (x : Sitter E) (before : List E) (now : S) (own h : ℕ) → Finds items room hart seat x before now → own ≡ length x.own → has x.claims h ≡ true → has (harts_of hart seat x.own) h ≡ false → own + 1 < 2 ^ 64
-  fits_more x before now own h finds is claimed lacks =
-      let few = finds.counts h claimed lacks in
+  -- the entry that is put is the last that the seat has seen
+  pub seen_more : (x : Sitter E) (before : List E) (now w : S) (position : ℕ) (e : E) → Finds items room hart seat x position before now → items w ≡ items now ++ e ∷ [] → position ≡ length (after_put x before now w).seen
+  seen_more x before now w position e finds pushed =
+      let more = ap (λ (l : List E). length ((before ++ items now) ++ l)) (added now w e pushed) in
+      let sum = length-append (before ++ items now) (e ∷ []) in
+      let is = finds.position_is in
+      omega arith
+
+  pub fits_more : (x : Sitter E) (before : List E) (now : S) (position own : ℕ) → Finds items room hart seat x position before now → own ≡ length x.own → own + 1 < 2 ^ 64
+  fits_more x before now position own finds is =
+      let few = finds.position_fits in
+      let here = finds.position_is in
       let mine = ap (λ (l : List E). length l) finds.own in
       let shorter = of_seat_shorter hart seat x.number (before ++ items now) in
       omega arith
 
-  pub puts_after : (right : E → Type 0) → ((e : E) → right e) → (t u : TableId) (x : Sitter E) (b p : Me S (View E)) (now blank w : S) (e : E) → u ≡ t → (h : HasTaken items room hart seat x now blank b)
+  pub puts_after : (right : E → Type 0) → ((e : E) → right e) → (t u : TableId) (position : ℕ) (x : Sitter E) (b p : Me S (View E)) (now blank w : S) (e : E) → u ≡ t → (h : HasTaken items room hart seat position x now blank b)
       → p.0 ≡ after_put x h.before now w ∷ [] → items w ≡ items now ++ e ∷ [] → seat e ≡ x.number
       → IsHistory hart seat x.number x.claims ((h.before ++ items now) ++ drop (length (items now)) (items w)) → Puts hart seat right (known t x) e (known u (sitter p.0))
-  puts_after right is_right t u x b p now blank w e same_table h at pushed mine legal =
+  puts_after right is_right t u position x b p now blank w e same_table h at pushed mine legal =
       let y : Sitter E = after_put x h.before now w in
       let at_y : y ≡ sitter p.0 = sym (ap sitter at) in
       let more = added now w e pushed in

@@ -15,7 +15,7 @@ use Rattle.run_book.specs.Rule.{BookHolds, Ended, Fits, Turned, View}
 use Rattle.run_book.specs.Sitters.{held, numbered, one, sitter, with_turn}
 use Rattle.run_book.proofs.Claiming.{unmoved_at}
 use Rattle.run_book.proofs.Lists.{drop_at, drop_long, each_both, Between, each_map, elem_below, elem_padded}
-use Rattle.run_book.proofs.Pages.{page_entries, all_put, claimed_now, entry_between, few, page_apart}
+use Rattle.run_book.proofs.Pages.{page_entries, all_put, claimed_now, entry_between, few, log_few, page_apart}
 use Rattle.run_book.proofs.Sums.{same_sum}
 use Rattle.run_book.proofs.Views.{refit}
 
@@ -25,9 +25,9 @@ length_nobody (suc n) a = let r = length_nobody n a in omega arith
 
 module _ {S E : Type 0} (items : S → List E) (room : S → ℕ) (hart seat : E → ℕ) (size : Size) where
   turn_one : (s : State S (View E)) (k : BookHolds items room hart seat size s) (id : ℕ) (x : Sitter E) (old new round next : ℕ) → get_elem? s.views id ≡ some (x ∷ []) → x.holding ≡ true
-      → get_or s.words 1 0 ≡ old → old ≡ round * 4294967296 + length x.page → new ≡ next * 4294967296 → round < next → new < 2 ^ 64 → (cs : List (ℕ × S))
+      → get_or s.words 1 0 ≡ old → old ≡ round * 4294967296 + length x.page → new ≡ next * 4294967296 → round < next → next < 2 ^ 32 → (cs : List (ℕ × S))
       → x.number ≡ 0 → BookHolds items room hart seat size (stepped s 1 new id cs (with_turn next x ∷ []) keeps) × Ended hart seat old x
-  turn_one s k id x old new round next at holding now old_is new_is later low_word cs zeroth =
+  turn_one s k id x old new round next at holding now old_is new_is later low_round cs zeroth =
       let f = (k.fits id (x ∷ []) at).0 in
       let held_facts = f.holds holding in
       let y : Sitter E = with_turn next x in
@@ -59,9 +59,9 @@ module _ {S E : Type 0} (items : S → List E) (room : S → ℕ) (hart seat : E
           counts = word ∙ sym long;
           begun = omega arith;
           low = omega arith;
-          small = k.small;
-          counted = omega arith;
+          small = (k.small.0, k.small.1, low_round);
           log_is = sym (append-nil k.log);
+          taken = let l = log_few items room hart seat size s k in omega arith;
           entries = each_map (λ e. get_elem? k.owners (hart e) ≡ some (seat e)) (λ e. get_elem? owners (hart e) ≡ some (seat e)) k.log
               (λ e e_at. at_longer k.owners nobody (hart e) (seat e) e_at) k.entries;
           whose = k.whose;
@@ -74,7 +74,7 @@ module _ {S E : Type 0} (items : S → List E) (room : S → ℕ) (hart seat : E
               (λ (none_has : o ≡ size.seats). absurd (omega arith))
               (elem_padded k.owners (new - length k.owners) size.seats t o is_o);
           free = λ z. absurd (let a = held_facts.0 in omega arith);
-          locked = lock ∙ (k.locked ∙ sym (same_sum held s.views id (x ∷ []) (y ∷ []) at refl));
+          locked = λ z. same_sum held s.views id (x ∷ []) (y ∷ []) at refl ∙ k.locked held_facts.0;
           seats = λ o b. same_sum (numbered o) s.views id (x ∷ []) (y ∷ []) at refl ∙ k.seats o b;
           all = same_sum one s.views id (x ∷ []) (y ∷ []) at refl ∙ k.all;
           fits = subst (λ (l : ℕ). (j : ℕ) (w : View E) → get_elem? (set s.views id (y ∷ [])) j ≡ some w → Each (Q l) w) (sym lock)
@@ -116,14 +116,14 @@ module _ {S E : Type 0} (items : S → List E) (room : S → ℕ) (hart seat : E
         },
       )
 
-  pub turns : (slots id : ℕ) (m : Me S (View E)) (x : Sitter E) (old new round next : ℕ) → m.0 ≡ x ∷ [] → x.number ≡ 0 → x.holding ≡ true → old ≡ round * 4294967296 + length x.page → new ≡ next * 4294967296 → round < next → new < 2 ^ 64
+  pub turns : (slots id : ℕ) (m : Me S (View E)) (x : Sitter E) (old new round next : ℕ) → m.0 ≡ x ∷ [] → x.number ≡ 0 → x.holding ≡ true → old ≡ round * 4294967296 + length x.page → new ≡ next * 4294967296 → round < next → next < 2 ^ 32
       → Allows (BookHolds items room hart seat size) slots id m 1 (λ n. either (eqb n old) new n) (Turned items room hart seat (step slots 1 old new none) m)
-  turns slots id m x old new round next alone zeroth holding old_is new_is later low_word s k long at fits_word =
+  turns slots id m x old new round next alone zeroth holding old_is new_is later low_round s k long at fits_word =
       let n : ℕ = get_or s.words 1 0 in
       let at' : get_elem? s.views id ≡ some (x ∷ []) = at ∙ ap some alone in
       let is : x ≡ sitter m.0 = sym (ap sitter alone) in
       dite (ℕ_discrete n old)
-      (λ same. let t = turn_one s k id x old new round next at' holding same old_is new_is later low_word m.1 zeroth in (
+      (λ same. let t = turn_one s k id x old new round next at' holding same old_is new_is later low_round m.1 zeroth in (
         with_turn next x ∷ [],
         keeps,
         tt,

@@ -12,7 +12,7 @@ use Rattle.run_book.specs.Lists.{Each, has, Apart}
 use Rattle.run_book.specs.Histories.{IsHistory, harts_of, of_seat}
 use Rattle.run_book.specs.Rule.{BookHolds, View}
 use Rattle.run_book.specs.Sitters.{numbered}
-use Rattle.run_book.proofs.Lists.{each_map, each_both, each_mapped, elem_below, elem_one, fewer_than, has_cases, has_head, has_tail, lacks_from, never}
+use Rattle.run_book.proofs.Lists.{each_map, each_both, elem_one, has_cases, has_head, has_tail, lacks_from, never}
 use Rattle.run_book.proofs.Sums.{none_numbered, numbered_self, sum_two}
 
 -- facts on histories, whatever the slot is
@@ -57,15 +57,6 @@ module _ {E : Type 0} (hart seat : E → ℕ) where
       → has (harts_of hart seat own) h ≡ false → has (harts_of hart seat log) h ≡ false
   not_put owners log own n h es at own_is lacks = lacks_from (harts_of hart seat log) h
       (λ is. never (has (harts_of hart seat own) h) (subst (λ (l : List E). has (harts_of hart seat l) h ≡ true) (sym own_is) (own_has owners log n h es at is)) lacks)
-
-  entered_below : (owners : List ℕ) (log : List E) (n : ℕ) → length owners ≤ n → Each (entered owners) log → Each (λ h. h < n) (harts_of hart seat log)
-  entered_below owners log n le es = each_mapped hart (λ h. h < n) log
-      (each_map (entered owners) (λ e. hart e < n) log (λ e at. let b = elem_below owners (hart e) (seat e) at in omega arith) es)
-
-  -- where one hart below n is missing, the history has fewer entries than n
-  pub history_short : (owners : List ℕ) (log : List E) (n h : ℕ) → length owners ≤ n → Each (entered owners) log → Apart (harts_of hart seat log) → h < n
-      → has (harts_of hart seat log) h ≡ false → length (harts_of hart seat log) < n
-  history_short owners log n h le es apart lt lacks = fewer_than (harts_of hart seat log) n h apart (entered_below owners log n le es) lt lacks
 
   pub length_harts : (log : List E) → length (harts_of hart seat log) ≡ length log
   length_harts [] = refl

@@ -1,5 +1,6 @@
 -- The rule of a book's table, which each step keeps, and what each step tells its seat.
--- The first word is the lock, the second counts the turns, and the slot has the history of the open round.
+-- The first word is the lock: while it is free, it is the position of the next entry in the run's history, from 1 on, and else 0. The
+-- second counts the turns, and the slot has the history of the open round.
 use Rattle.std.specs.Prelude.{◌≡◌, ℕ, ◌+◌, ◌-◌, ◌^◌, ◌<◌, ◌≤◌, ◌≢◌, ◌⊎◌, true, false, List, [], ◌∷◌, ◌++◌, drop, length, slice_index}
 use mathlib.Core.Option.{some}
 use lib.ListN.{get_elem?}
@@ -44,7 +45,7 @@ module _ {S E : Type 0} (items : S → List E) (room : S → ℕ) (hart seat : E
     pub seen_is : Begins x.seen log
     pub own_is : x.own ≡ of_seat hart seat x.number log
     pub ends : x.number ≡ 0 → (x.round ≡ round) × (x.gone ≡ gone)
-    pub holds : x.holding ≡ true → (lock ≡ 1) × (who ≡ x.number) × (x.seen ≡ log) × (x.page ≡ page)
+    pub holds : x.holding ≡ true → (lock ≡ 0) × (who ≡ x.number) × (x.seen ≡ log) × (x.page ≡ page)
 
   pub record BookHolds (size : Size) (s : State S (View E)) : Type 0 where
     -- who claimed turn 0, 1, ..: a seat, or nobody
@@ -61,18 +62,19 @@ module _ {S E : Type 0} (items : S → List E) (room : S → ℕ) (hart seat : E
     pub counts : slice_index s.words 1 ≡ length owners
     pub begun : first_turn round ≤ length owners
     pub low : length owners ≤ turn_of round size.harts
-    pub small : (size.harts < 2 ^ 32) × (size.seats < 2 ^ 32)
-    pub counted : length owners < 2 ^ 64
+    pub small : (size.harts < 2 ^ 32) × (size.seats < 2 ^ 32) × (round < 2 ^ 32)
     pub log_is : log ≡ gone ++ page
+    -- each round before the open one left a turn at least that nobody put
+    pub taken : length gone + round ≤ first_turn round
     pub entries : Each (λ e. get_elem? owners (hart e) ≡ some (seat e)) log
     pub whose : Each (λ e. seat e < size.seats) log
     pub apart : Apart (harts_of hart seat log)
     -- the slot has entries of the open round alone, and of the rounds before it all that was claimed is put
     pub here : Each (λ e. first_turn round ≤ hart e) page
     pub settled : (t k : ℕ) → t < first_turn round → get_elem? owners t ≡ some k → k < size.seats → has (harts_of hart seat log) t ≡ true
-    -- while the lock is free, the slot is at home
-    pub free : slice_index s.words 0 ≡ 0 → (v : S) × (get_elem? s.homes 0 ≡ some (some v)) × (items v ≡ page) × (size.harts ≤ room v)
-    pub locked : slice_index s.words 0 ≡ sum_of held s.views
+    -- while the lock is free, nobody holds it, and the slot is at home
+    pub free : 0 < slice_index s.words 0 → (slice_index s.words 0 ≡ length log + 1) × (sum_of held s.views ≡ 0) × ((v : S) × (get_elem? s.homes 0 ≡ some (some v)) × (items v ≡ page) × (size.harts ≤ room v))
+    pub locked : slice_index s.words 0 ≡ 0 → sum_of held s.views ≡ 1
     pub seats : (k : ℕ) → k < size.seats → sum_of (numbered k) s.views ≡ 1
     pub all : sum_of one s.views ≡ size.seats
     pub fits : (j : ℕ) (v : View E) → get_elem? s.views j ≡ some v → Each (Fits size owners log gone page (slice_index s.words 0) who round) v
@@ -83,34 +85,35 @@ module _ {S E : Type 0} (items : S → List E) (room : S → ℕ) (hart seat : E
       (r ≡ st.first → (n.1 ≡ m.1) × (n.0 ≡ with_claim r (sitter m.0) ∷ []) × (has (sitter m.0).claims r ≡ false))
       × (r ≢ st.first → n ≡ m)
 
-  -- what the holder of the lock knows: all histories that were taken out, `before`, and what stands in the slot make up the run's, and
-  -- there is room for one entry more
-  pub record Finds (x : Sitter E) (before : List E) (found : S) : Type 0 where
+  -- what the holder of the lock knows: all histories that were taken out, `before`, and what stands in the slot make up the run's, the
+  -- word that it found is the position of the next entry, and there is room for it
+  pub record Finds (x : Sitter E) (position : ℕ) (before : List E) (found : S) : Type 0 where
+    pub position_is : position ≡ length (before ++ items found) + 1
+    pub position_fits : position + 1 < 2 ^ 64
     pub begins : Begins x.seen (before ++ items found)
     pub gone : x.number ≡ 0 → before ≡ x.gone
     pub own : x.own ≡ of_seat hart seat x.number (before ++ items found)
     pub spare : x.harts ≤ room found
     pub few : length (items found) ≤ x.harts
     pub fewer : (h : ℕ) → has x.claims h ≡ true → has (harts_of hart seat x.own) h ≡ false → length (items found) < x.harts
-    pub counts : (h : ℕ) → has x.claims h ≡ true → has (harts_of hart seat x.own) h ≡ false → length (before ++ items found) + 1 < 2 ^ 64
 
   -- the lock is taken: the seat sees the whole history and has the slot
-  pub record GotLock (x : Sitter E) (m n : Me S (View E)) : Type 0 where
+  pub record GotLock (position : ℕ) (x : Sitter E) (m n : Me S (View E)) : Type 0 where
     pub found : S
     pub before : List E
     pub sees : n.0 ≡ with_lock (before ++ items found) (items found) x ∷ []
     pub carries : n.1 ≡ (0, found) ∷ m.1
-    pub finds : Finds x before found
+    pub finds : Finds x position before found
 
   -- the seat holds the lock and has taken the history `now` out of the slot, in which `blank` stands
-  pub record HasTaken (x : Sitter E) (now blank : S) (n : Me S (View E)) : Type 0 where
+  pub record HasTaken (position : ℕ) (x : Sitter E) (now blank : S) (n : Me S (View E)) : Type 0 where
     pub before : List E
     pub is : n ≡ (with_lock (before ++ items now) (items now) x ∷ [], (0, blank) ∷ [])
-    pub finds : Finds x before now
+    pub finds : Finds x position before now
 
   -- a try at the lock: it was free, or nothing changes
   abbrev pub Acquired : Step S → Me S (View E) → ℕ → Me S (View E) → Type 0
-  Acquired st m r n = (r ≡ 0 → GotLock (sitter m.0) m n) × (r ≢ 0 → n ≡ m)
+  Acquired st m r n = (0 < r → GotLock r (sitter m.0) m n) × (r ≡ 0 → n ≡ m)
 
   -- the lock is given up with the slot, and an entry more in it
   abbrev pub Released : Step S → Me S (View E) → ℕ → Me S (View E) → Type 0

@@ -25,7 +25,8 @@ pub(crate) const TURNS: u64 = 4_294_967_296;
 
 /// The shared book of a run: in each round each hart is claimed once, and what was put is one history.
 ///
-/// It is a table with two words, the lock and the count of turns, and a slot with the history of the round that is open.
+/// It is a table with two words, the lock and the count of turns, and a slot with the history of the round that is open. While the lock is
+/// free, its word is the position of the next entry in the run's history, from 1 on, and while a seat holds it 0.
 #[derive(Drop)]
 pub struct RunBook<E: Entry> {
     pub(crate) table: Table<Vec<E>, Sitters<E>, Size, BookRule, Global>,
@@ -63,7 +64,7 @@ impl<E: Entry> RunBook<E> {
         let mut slots = Vec::with_capacity(alloc, 1)?;
         slots.push_reserved(history);
         let places = Vec::with_capacity(alloc, seats as usize)?;
-        let Ok((table, place)) = Table::new(alloc, &[0, 0], slots, &size) else {
+        let Ok((table, place)) = Table::new(alloc, &[1, 0], slots, &size) else {
             return Err(AllocError);
         };
         let dealt = deal(&table.shared, place, harts, seats, places);
@@ -140,14 +141,15 @@ impl<E: Entry> RunBook<E> {
         ensures same { IfErr result (λ r. s.new ≡ s.old) }
     {
         let words = &self.table.shared;
-        let Ok(mut history) = try_take(words, &mut s.place, Vec::new(self.alloc)) else {
+        let Ok((mut history, position)) = try_take(words, &mut s.place, Vec::new(self.alloc)) else {
             return Err(e);
         };
         history.push_reserved(e);
         s.own += 1;
+        s.seen = position as usize;
         let nothing = replace_slot(words, &mut s.place, history);
         nothing.destroy_empty();
-        words.store::<Releases>(&mut s.place, 0, 0);
+        words.store::<Releases>(&mut s.place, 0, position + 1);
         Ok(())
     }
 
@@ -194,15 +196,16 @@ impl<E: Entry> RunBook<E> {
     {
         let _harts = s.harts;
         let words = &self.table.shared;
-        let history = take(rt, words, &mut s.place, blank);
+        let (history, position) = take(rt, words, &mut s.place, blank);
+        s.seen = position as usize - 1;
         let count = history.len() as u32;
         if try_turn(words, &mut s.place, s.round, next, count) {
-            words.store::<Returns>(&mut s.place, 0, 0);
+            words.store::<Returns>(&mut s.place, 0, position);
             s.round = next;
             return Ok(history);
         }
         let back = replace_slot(words, &mut s.place, history);
-        words.store::<Returns>(&mut s.place, 0, 0);
+        words.store::<Returns>(&mut s.place, 0, position);
         Err(back)
     }
 }
@@ -218,23 +221,24 @@ fn hart_in(turn: u64, round: u32, harts: u32) -> Option<u32>
     Some((turn - first) as u32)
 }
 
-/// Takes the history out of the slot, and leaves the other list there. It tries again until it has the lock.
+/// Takes the history out of the slot, and leaves the other list there. It tries again until it has the lock. The number is the position of
+/// the next entry in the run's history, from 1 on.
 fn take<E: Entry, R: Wait>(
     rt: &R,
     words: &Shared<Vec<E>, Sitters<E>, Size, BookRule>,
     place: &mut Place<Vec<E>, Sitters<E>>,
     mut blank: Vec<E>,
-) -> Vec<E>
+) -> (Vec<E>, u64)
     requires table { (place.old.table_id ≡ words.now.table_id) × (words.now.table_id.words ≡ 2) }
     requires rest { AtRest place.old.me }
     ensures table { place.new.table_id ≡ place.old.table_id }
-    ensures taken { HasTaken (λ v. v.items) (λ v. vec_capacity v) E.turn E.seat
-        (sitter place.old.me.0) result blank place.new.me }
+    ensures taken { HasTaken (λ v. v.items) (λ v. vec_capacity v) E.turn E.seat result.1
+        (sitter place.old.me.0) result.0 blank place.new.me }
 {
     let backoff = Backoff::new();
     for _ in rt.forever() {
         match try_take(words, place, blank) {
-            Ok(history) => return history,
+            Ok(taken) => return taken,
             Err(back) => blank = back,
         }
         backoff.snooze();
@@ -251,19 +255,20 @@ fn try_take<E: Entry>(
     words: &Shared<Vec<E>, Sitters<E>, Size, BookRule>,
     place: &mut Place<Vec<E>, Sitters<E>>,
     blank: Vec<E>,
-) -> Result<Vec<E>, Vec<E>>
+) -> Result<(Vec<E>, u64), Vec<E>>
     requires table { (place.old.table_id ≡ words.now.table_id) × (words.now.table_id.words ≡ 2) }
     requires rest { AtRest place.old.me }
     ensures table { place.new.table_id ≡ place.old.table_id }
     ensures taken { IfOk result (λ h. HasTaken (λ v. v.items) (λ v. vec_capacity v) E.turn E.seat
-        (sitter place.old.me.0) h blank place.new.me) }
+        h.1 (sitter place.old.me.0) h.0 blank place.new.me) }
     ensures back { IfErr result (λ v. v ≡ blank) }
     ensures same { IfErr result (λ v. place.new.me ≡ place.old.me) }
 {
-    if words.compare_exchange::<Acquires>(place, 0, 0, 1) != 0 {
+    let position = words.swap::<Acquires>(place, 0, 0);
+    if position == 0 {
         return Err(blank);
     }
-    Ok(replace_slot(words, place, blank))
+    Ok((replace_slot(words, place, blank), position))
 }
 
 /// Opens a later round, if all that was claimed in this one, so many turns, stands in the slot.
@@ -314,6 +319,7 @@ fn deal<E: Entry>(
             harts,
             round: 0,
             own: 0,
+            seen: 0,
         });
         rest = others;
     }

@@ -25,5 +25,7 @@ impl<E: Entry> RunBook<E> {
         words.join_seat::<Together>(&mut a.place, other);
         words.load::<Compares>(&mut a.place, 0);
         b.place = words.split_seat::<Others>(&mut a.place);
+        a.seen = a.seen.max(b.seen);
+        b.seen = a.seen;
     }
 }

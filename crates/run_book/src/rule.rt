@@ -23,7 +23,7 @@ impl<E: Entry> Play<Vec<E>, Sitters<E>> for Claims {
     ghost then = { Claimed (λ v. v.items) (λ v. vec_capacity v) E.turn E.seat };
 }
 
-/// The lock is taken.
+/// The lock is taken, or it was taken already.
 pub(crate) struct Acquires;
 
 impl<E: Entry> Play<Vec<E>, Sitters<E>> for Acquires {

@@ -13,6 +13,7 @@ pub struct Seat<E> {
     // Of the seat with number 0: the round that is open.
     pub(crate) round: u32,
     pub(crate) own: usize,
+    pub(crate) seen: usize,
 }
 
 impl<E> Model for Seat<E> {
@@ -24,7 +25,7 @@ impl<E> Model for Seat<E> {
 
     ghost view = { λ s. known s.place.table_id (sitter s.place.me.0) };
 
-    ghost invariant = { λ s. Counted s.place.me s.number s.harts s.round s.own };
+    ghost invariant = { λ s. Counted s.place.me s.number s.harts s.round s.own s.seen };
 }
 
 impl<E> Seat<E> {
@@ -33,5 +34,12 @@ impl<E> Seat<E> {
         ensures { result ≡ length self.now.own }
     {
         self.own
+    }
+
+    /// How many entries of the history the seat has seen, over all rounds.
+    pub fn seen(&self) -> usize
+        ensures { result ≡ length self.now.seen }
+    {
+        self.seen
     }
 }

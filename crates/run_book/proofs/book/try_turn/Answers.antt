@@ -12,5 +12,5 @@ compare_exchange-requires g c =
       c.requires.table.0,
       (let w = c.requires.table.1 in omega arith),
       turns (λ (v : Vec g.row.E.Denot Global). v.items) (λ (v : Vec g.row.E.Denot Global). vec_capacity v) g.E.Entry.turn g.E.Entry.seat c.args.words.now.key c.args.words.now.table_id.slots c.args.place.now.id m (sitter m.0) _ _ c.args.round c.args.next c.requires.holds.0 c.requires.number c.requires.holds.1
-          (let l = c.requires.holds.2 in omega arith) (omega arith) c.requires.later (let r = c.ranges.next in omega arith),
+          (let l = c.requires.holds.2 in omega arith) (omega arith) c.requires.later (omega (arith, c.ranges.next)),
     )
