@@ -68,10 +68,6 @@ module _ {A : Type 0} where
   each_mapped f P [] e = tt
   each_mapped f P (x ∷ xs) e = (e.0, each_mapped f P xs e.1)
 
-  pub each_unmapped : {B : Type 0} (f : A → B) (P : B → Type 0) (xs : List A) → Each P (map f xs) → Each (λ a. P (f a)) xs
-  each_unmapped f P [] e = tt
-  each_unmapped f P (x ∷ xs) e = (e.0, each_unmapped f P xs e.1)
-
   -- ---- elements by place
 
   pub elem_below : (xs : List A) (i : ℕ) (a : A) → get_elem? xs i ≡ some a → i < length xs
@@ -88,16 +84,6 @@ module _ {A : Type 0} where
   pub elem_one : (xs : List A) (i : ℕ) (a b : A) → get_elem? xs i ≡ some a → get_elem? xs i ≡ some b → a ≡ b
   elem_one xs i a b e f = some-injective a b (sym e ∙ f)
 
-  pub elem_each : (P : A → Type 0) (xs : List A) (i : ℕ) (a : A) → Each P xs → get_elem? xs i ≡ some a → P a
-  elem_each P [] i a e at = absurd (some-ne-none a (sym at))
-  elem_each P (x ∷ xs) zero a e at = subst P (some-injective x a at) e.0
-  elem_each P (x ∷ xs) (suc i) a e at = elem_each P xs i a e.1 at
-
-  pub elem_there : (xs : List A) (i : ℕ) → i < length xs → (a : A) × (get_elem? xs i ≡ some a)
-  elem_there [] i h = absurd (omega arith)
-  elem_there (x ∷ xs) zero h = (x, refl)
-  elem_there (x ∷ xs) (suc i) h = elem_there xs i (omega arith)
-
 -- ---- membership
 
 or_left : (a b : Bool) → (a || b) ≡ false → a ≡ false
@@ -107,10 +93,6 @@ or_left false b e = refl
 or_right : (a b : Bool) → (a || b) ≡ false → b ≡ false
 or_right true b e = absurd (true≢false e)
 or_right false b e = e
-
-pub or_false : (a b : Bool) → a ≡ false → b ≡ false → (a || b) ≡ false
-or_false true b e f = e
-or_false false b e f = f
 
 pub has_head : (x n : ℕ) (xs : List ℕ) → n ≡ x → has (x ∷ xs) n ≡ true
 has_head x n xs e = ap (λ (b : Bool). b || has xs n) (eq-eqb n x e)

@@ -1,5 +1,5 @@
 -- A try at the lock and a release keep the rule.
-use Rattle.std.proofs.Common.{◌≡◌, ℕ, ◌+◌, ◌⊎◌, ⊎_elim, ◌*◌, ◌<◌, ◌≤◌, Bool, true, false, List, [], ◌∷◌, ◌++◌, drop, length, set, get_or, refl, sym, ap, ◌∙◌, subst, arith, true≢false, append-nil, append_assoc, length-set, get_or-set_other, get_or-set_same, length-append}
+use Rattle.std.proofs.Common.{◌≡◌, ℕ, ◌+◌, ◌⊎◌, ⊎_elim, ◌*◌, ◌<◌, ◌≤◌, true, false, List, [], ◌∷◌, ◌++◌, drop, length, set, get_or, refl, sym, ap, ◌∙◌, subst, arith, true≢false, append-nil, append_assoc, length-set, get_or-set_other, get_or-set_same, length-append}
 use mathlib.Core.Option.{none, some}
 use mathlib.Core.Logic.{dite}
 use mathlib.Core.List.{map-append}
@@ -20,12 +20,9 @@ use Rattle.run_book.proofs.Pages.{few, fewer, log_few, unput_here}
 use Rattle.run_book.proofs.Views.{is_history, not_put, of_seat_append, of_seat_mine, of_seat_other, refit}
 
 -- the first slot of a list of slots, or a given one
-abbrev head_or : {S : Type 0} → S → List (ℕ × S) → S
+abbrev pub head_or : {S : Type 0} → S → List (ℕ × S) → S
 head_or d [] = d
 head_or d (x ∷ xs) = x.1
-
-value_same : {S : Type 0} → (v w : S) → (let l : List (ℕ × S) = (0, v) ∷ [] in l) ≡ ((0, w) ∷ []) → v ≡ w
-value_same v w e = ap (head_or v) e
 
 module _ {S E : Type 0} (items : S → List E) (room : S → ℕ) (hart seat : E → ℕ) (size : Size) where
   -- the free lock is taken, with the slot
@@ -235,7 +232,7 @@ module _ {S E : Type 0} (items : S → List E) (room : S → ℕ) (hart seat : E
         gives,
         tt,
         subst (λ (cs : List (ℕ × S)). BookHolds items room hart seat size (stepped s 0 new id cs (with_puts (items v) x ∷ []) gives)) (sym carries) r.0,
-        (λ w has_w. let same : v ≡ w = value_same v w (sym carries ∙ has_w) in (
+        (λ w has_w. let same : v ≡ w = ap (head_or v) (sym carries ∙ has_w) in (
           subst (λ (z : Sitter E). with_puts (items v) x ∷ [] ≡ with_puts (items v) z ∷ []) is refl ∙ ap (λ (u : S). with_puts (items u) (sitter m.0) ∷ []) same,
           ap (λ (cs : List (ℕ × S)). rest cs) carries,
           subst (λ (u : S). IsHistory hart seat (sitter m.0).number (sitter m.0).claims ((sitter m.0).seen ++ drop (length (sitter m.0).page) (items u))) same

@@ -1,13 +1,13 @@
 -- Legal lists of moves: one leaves the history of a closed book, and complete ones leave the same entries.
-use Rattle.std.proofs.Common.{◌≡◌, ◌≢◌, ℕ, ◌≤◌, ◌<◌, cond, Bool, true, false, List, [], ◌∷◌, ◌++◌, map, length, Option, Some, None, is_some, option_map, refl, sym, ap, ◌∙◌, subst, ⊎_elim, arith, true≢false, append_assoc, append-nil, length-append, eq-eqb, ne_eqb}
+use Rattle.std.proofs.Common.{◌≡◌, ◌≢◌, ℕ, ◌≤◌, cond, Bool, true, false, List, [], ◌∷◌, ◌++◌, map, length, Option, Some, None, is_some, option_map, refl, sym, ap, ◌∙◌, subst, ⊎_elim, arith, true≢false, append_assoc, append-nil, length-append, eq-eqb, ne_eqb}
 use mathlib.Core.Option.{some}
 use mathlib.Core.Logic.{dite}
 use mathlib.Core.List.{map-append}
 use native.Mathlib.Decide.{ℕ_discrete}
 use lib.ListN.{get_elem?}
-use Rattle.run_book.specs.Histories.{AllMay, Gathering, Made, May, Move, SameTable, after_move, after_moves, claims, entry_of, harts_of, opening, puts, releases, takes}
+use Rattle.run_book.specs.Histories.{AllMay, Gathering, Made, Move, SameTable, after_move, after_moves, claims, entry_of, harts_of, opening, puts, releases, takes}
 use Rattle.run_book.specs.Lists.{Apart, Each, has}
-use Rattle.run_book.proofs.Lists.{each_append, elem_below, has_cases, has_from_times, has_head, has_skip, has_tail, lacks_head, lacks_tail, never}
+use Rattle.run_book.proofs.Lists.{has_cases, has_from_times, has_head, has_skip, has_tail, lacks_head, lacks_tail, never}
 
 -- in numbers apart, none before a number is the same
 apart_mid : (xs : List ℕ) (y : ℕ) (ys : List ℕ) → Apart (xs ++ y ∷ ys) → has xs y ≡ false
@@ -112,23 +112,3 @@ module _ {E : Type 0} (hart seat : E → ℕ) where
           may_append opening (claim_moves owners) (put_moves es) a.0 (subst (λ (m : Gathering E). AllMay hart seat right harts m (put_moves es)) (sym a.1) b.0),
           after_append opening (claim_moves owners) (put_moves es) ∙ (ap (λ (m : Gathering E). after_moves m (put_moves es)) a.1 ∙ b.1),
         )
-
-    -- no more harts are claimed than there are, and each entry is of one of them
-    abbrev Within : Gathering E → Type 0
-    Within m = (length m.owners ≤ harts) × Each (λ e. hart e < harts) m.history
-
-    within_move : (m : Gathering E) (x : Move E) → May hart seat right harts m x → Within m → Within (after_move m x)
-    within_move m (claims k) may w = let l = length-append m.owners (k ∷ []) in (omega arith, w.1)
-    within_move m (takes k) may w = w
-    within_move m (puts e) may w =
-        let below : hart e < length m.owners = elem_below m.owners (hart e) (seat e) may.1 in
-        let few : length m.owners ≤ harts = w.0 in
-        (w.0, each_append (λ f. hart f < harts) m.history (e ∷ []) w.1 (omega arith, tt))
-    within_move m releases may w = w
-
-    within_moves : (m : Gathering E) (xs : List (Move E)) → AllMay hart seat right harts m xs → Within m → Within (after_moves m xs)
-    within_moves m [] a w = w
-    within_moves m (x ∷ xs) a w = within_moves (after_move m x) xs a.1 (within_move m x a.0 w)
-
-    pub only_harts : (owners : List ℕ) (es : List E) → Made hart seat right harts owners es → Each (λ e. hart e < harts) es
-    only_harts owners es m = subst (λ (g : Gathering E). Each (λ e. hart e < harts) g.history) m.2 (within_moves opening m.0 m.1 (omega arith, tt)).1

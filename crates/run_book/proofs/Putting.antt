@@ -1,23 +1,19 @@
 -- What a put and the end of a round do to their seat: while it holds the lock, and after the release.
-use Rattle.std.proofs.Common.{◌≡◌, ℕ, ◌+◌, ◌-◌, ◌^◌, ◌<◌, ◌≤◌, true, false, List, [], ◌∷◌, ◌++◌, drop, length, length-append, refl, sym, ap, ◌∙◌, subst, arith}
+use Rattle.std.proofs.Common.{◌≡◌, ℕ, ◌+◌, ◌-◌, ◌^◌, ◌<◌, ◌≤◌, false, List, [], ◌∷◌, ◌++◌, drop, length, length-append, refl, sym, ap, ◌∙◌, subst, arith}
 use Rattle.atomic_table.specs.Seated.{TableId}
 use Rattle.atomic_table.specs.Table.{Me, rest}
 use Rattle.run_book.specs.declared.sitter.Sitter.{Sitter}
 use Rattle.run_book.specs.Histories.{Made, IsHistory, harts_of, of_seat}
 use Rattle.run_book.specs.Known.{Puts, TakesRound, known}
-use Rattle.run_book.specs.Lists.{Apart, has}
+use Rattle.run_book.specs.Lists.{Apart}
 use Rattle.run_book.specs.Rule.{Ended, Finds, GotLock, HasTaken, View}
 use Rattle.run_book.specs.Seats.{Counted}
 use Rattle.run_book.specs.Sitters.{sitter, with_lock, with_puts, with_turn, without_lock}
 use Rattle.run_book.specs.Turns.{first_turn, turn_of}
 use Rattle.run_book.proofs.Lists.{each_mapped, minus_all, minus_of, drop_begin, each_map, each_of_all}
+use Rattle.run_book.proofs.Locking.{head_or}
 use Rattle.run_book.proofs.Moves.{made}
 use Rattle.run_book.proofs.Views.{of_seat_append, of_seat_mine, of_seat_shorter}
-
--- the first slot of a list of slots, or a given one
-abbrev head_or : {S : Type 0} → S → List (ℕ × S) → S
-head_or d [] = d
-head_or d (x ∷ xs) = x.1
 
 module _ {S E : Type 0} (items : S → List E) (room : S → ℕ) (hart seat : E → ℕ) where
   pub carried : (position : ℕ) (x : Sitter E) (m n : Me S (View E)) → GotLock items room hart seat position x m n → m.1 ≡ [] → (v : S) × (n.1 ≡ (0, v) ∷ rest n.1)

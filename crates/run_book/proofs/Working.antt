@@ -1,9 +1,9 @@
 -- What a worker keeps of its seat, and when a history is whole.
-use Rattle.std.proofs.Common.{◌≡◌, ℕ, zero, suc, ◌<◌, ◌≤◌, true, false, refl, map, slice_index_or, remove, List, [], ◌∷◌, ◌++◌, length, sym, ap, ◌∙◌, subst, arith, append-nil}
+use Rattle.std.proofs.Common.{◌≡◌, ℕ, zero, suc, ◌<◌, ◌≤◌, true, false, refl, map, slice_index_or, remove, List, [], ◌∷◌, ◌++◌, length, sym, ap, ◌∙◌, subst, arith}
 use mathlib.Core.List.{map-append}
 use Rattle.atomic_table.specs.Seated.{TableId}
 use Rattle.run_book.specs.Histories.{harts_of}
-use Rattle.run_book.specs.Known.{TakesRound, IsRound, Known, Puts, fresh_seats, known}
+use Rattle.run_book.specs.Known.{IsRound, Known, Puts, fresh_seats, known}
 use Rattle.run_book.specs.Lists.{Each, has}
 use Rattle.run_book.specs.Sitters.{newcomers_from}
 use Rattle.run_book.specs.Turns.{first_turn, turn_of}
@@ -66,26 +66,6 @@ module _ {E : Type 0} (turn seat : E → ℕ) where
         times_once (harts_of turn seat es) (turn_of round h) r.apart
         (all_between (harts_of turn seat es) (first_turn round) harts (turn_of round h) r.apart within (length_harts turn seat es ∙ long) (omega arith) (omega arith));
   }
-
-  -- a seat that took a round out is as honest as it was
-  pub honest_taken : (right : E → Type 0) (t : TableId) (harts : ℕ) (k l : Known E) (next : ℕ) (es : List E) → IsHonest turn seat t harts k → TakesRound turn seat right k next es l → IsHonest turn seat t harts l
-  honest_taken right t harts k l next es honest taken = let r = taken.rest in let claims = r.3 in let own = r.4 in record {
-    table = r.0 ∙ honest.table;
-    harts_are = r.2 ∙ honest.harts_are;
-    own = λ n lacks. ap (λ (ps : List E). has (harts_of turn seat ps) n) own ∙ honest.own n (sym (ap (λ (cs : List ℕ). has cs n) claims) ∙ lacks);
-  }
-
-  -- and has seen what it has taken out
-  pub calling_taken : (right : E → Type 0) (t : TableId) (harts : ℕ) (k l : Known E) (next : ℕ) (es : List E) → IsHonest turn seat t harts k → k.number ≡ 0 → TakesRound turn seat right k next es l → IsCalling turn seat t harts l
-  calling_taken right t harts k l next es honest number taken = record {
-    honest = honest_taken right t harts k l next es honest taken;
-    number = taken.rest.1 ∙ number;
-    seen = taken.seen ∙ sym taken.gone;
-  }
-
-  -- a round that is passed over adds nothing
-  pub none_seen : (right : E → Type 0) (t : TableId) (harts : ℕ) (k l : Known E) (next : ℕ) (es : List E) → IsCalling turn seat t harts k → TakesRound turn seat right k next es l → es ≡ [] → l.seen ≡ k.seen
-  none_seen right t harts k l next es calling taken none = taken.seen ∙ (ap (λ (fs : List E). k.gone ++ fs) none ∙ (append-nil k.gone ∙ sym calling.seen))
 
 module _ {E : Type 0} (turn seat : E → ℕ) where
   fresh_from : (t : TableId) (harts a n k : ℕ) (d : Known E) → k < length (map (known {E = E} t) (newcomers_from harts a n)) → IsHonest turn seat t harts (slice_index_or (map (known t) (newcomers_from harts a n)) k d)

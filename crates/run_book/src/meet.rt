@@ -9,7 +9,8 @@ use crate::rule::{Compares, Everyone, Others, Together};
 use crate::seat::Seat;
 
 impl<E: Entry> RunBook<E> {
-    /// Tells each of two seats what the other has seen. It waits for nobody.
+    /// Tells each of two seats what the other has seen. It waits for nobody. The seat that ends the rounds may then have seen more than it
+    /// took out, and opens no round (`open_round`) until it has taken one out (`take_whole`).
     pub fn meet(&self, a: &mut Seat<E>, b: &mut Seat<E>)
         requires { (a.old.table ≡ self.now.table) × (b.old.table ≡ self.now.table) }
         ensures same_seen { a.new.seen ≡ b.new.seen }
