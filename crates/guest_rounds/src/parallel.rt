@@ -103,7 +103,10 @@ fn fill_places<G: Gate>(
     ensures { OnOk result (AreEndsOf start.now.logs start.now.memory
         (rounds_of start.now) ends.new.items) }
 {
-    make_as_many(start, ends)?;
+    // Asked for speed: after the first round they are there.
+    if ends.len() != start.harts().len() {
+        make_as_many(start, ends)?;
+    }
     rounds_in_place(gate, start, ends.as_mut_slice(), accesses)
 }
 

@@ -375,7 +375,8 @@ impl UntracedMachine {
         ensures workers { result ≡ true → 1 < workers }
         ensures runs { result ≡ true → ¬ HasStopped self.now }
     {
-        self.running_harts() > 0 && self.wants_workers(workers)
+        // One worker shares nothing: that is asked first for speed.
+        self.wants_workers(workers) && self.running_harts() > 0
     }
 
     /// Whether the next round is worth more than one of so many workers.
@@ -422,7 +423,13 @@ impl UntracedMachine {
             return Ok(());
         }
         let ends = self.do_parallel_by(crew, shares)?;
-        self.end_round(&crew.crew, keeper, ends)?;
+        // Where a round isn't worth sharing, what its harts stored isn't either.
+        let workers = if shares { crew.crew.workers } else { 1 };
+        let committing = Crew {
+            workers,
+            ..crew.crew
+        };
+        self.end_round(&committing, keeper, ends)?;
         Ok(())
     }
 
