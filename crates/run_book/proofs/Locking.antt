@@ -16,6 +16,7 @@ use Rattle.run_book.specs.Sitters.{held, numbered, one, sitter, sum_of, with_loc
 use Rattle.run_book.proofs.Lists.{apart_snoc, begins_more, begins_same, drop_begin, each_append, has_left}
 use Rattle.run_book.proofs.Sums.{held_by, same_sum, sum_set}
 use Rattle.run_book.proofs.Claiming.{unmoved_at}
+use Rattle.run_book.proofs.Dealing.{rehold}
 use Rattle.run_book.proofs.Pages.{few, fewer, log_few, unput_here}
 use Rattle.run_book.proofs.Views.{is_history, not_put, of_seat_append, of_seat_mine, of_seat_other, refit}
 
@@ -40,52 +41,30 @@ module _ {S E : Type 0} (items : S → List E) (room : S → ℕ) (hart seat : E
       (let t = sum_set held s.views id (x ∷ []) (y ∷ []) at in let u = held_by x false idle in let l = (k.free now).1 in omega arith) in
       let P : Sitter E → Type 0 = Fits items room hart seat size k.owners k.log k.gone k.page (get_or s.words 0 0) k.who k.round in
       let Q : ℕ → Sitter E → Type 0 = λ l. Fits items room hart seat size k.owners k.log k.gone k.page l x.number k.round in
+      rehold items room hart seat size s (stepped s 0 0 id cs (y ∷ []) (takes 0 v)) k x.number (length-set s.words 0 0 ∙ wide) word
+      (same_sum one s.views id (x ∷ []) (y ∷ []) at refl) (λ n. same_sum (numbered n) s.views id (x ∷ []) (y ∷ []) at refl) (λ z. absurd (omega arith)) (λ _. held_more)
+      (subst (λ (l : ℕ). (j : ℕ) (w : View E) → get_elem? (set s.views id (y ∷ [])) j ≡ some w → Each (Q l) w) (sym lock)
+      (refit items room hart seat size P (Q 0) s k id x y at f.below k.fits
       record {
-        owners = k.owners;
-        log = k.log;
-        who = x.number;
-        wide = length-set s.words 0 0 ∙ wide;
-        gone = k.gone;
-        page = k.page;
-        round = k.round;
-        counts = word ∙ k.counts;
-        begun = k.begun;
-        low = k.low;
-        small = k.small;
-        log_is = k.log_is;
-        taken = k.taken;
-        entries = k.entries;
-        whose = k.whose;
-        apart = k.apart;
-        here = k.here;
-        settled = k.settled;
-        free = λ z. absurd (omega arith);
-        locked = λ _. held_more;
-        seats = λ o b. same_sum (numbered o) s.views id (x ∷ []) (y ∷ []) at refl ∙ k.seats o b;
-        all = same_sum one s.views id (x ∷ []) (y ∷ []) at refl ∙ k.all;
-        fits = subst (λ (l : ℕ). (j : ℕ) (w : View E) → get_elem? (set s.views id (y ∷ [])) j ≡ some w → Each (Q l) w) (sym lock)
-            (refit items room hart seat size P (Q 0) s k id x y at f.below k.fits
-            record {
-              harts_are = f.harts_are;
-              below = f.below;
-              claimed = f.claimed;
-              knows = f.knows;
-              seen_is = subst (λ (l : List E). Begins l k.log) (sym log_is) (begins_same k.log);
-              own_is = f.own_is;
-              ends = f.ends;
-              holds = λ _. (refl, refl, log_is, page_is);
-            }
-            (λ z p ne. record {
-              harts_are = p.harts_are;
-              below = p.below;
-              claimed = p.claimed;
-              knows = p.knows;
-              seen_is = p.seen_is;
-              own_is = p.own_is;
-              ends = p.ends;
-              holds = λ h. absurd (let l = (p.holds h).0 in omega arith);
-            }));
+        harts_are = f.harts_are;
+        below = f.below;
+        claimed = f.claimed;
+        knows = f.knows;
+        seen_is = subst (λ (l : List E). Begins l k.log) (sym log_is) (begins_same k.log);
+        own_is = f.own_is;
+        ends = f.ends;
+        holds = λ _. (refl, refl, log_is, page_is);
       }
+      (λ z p ne. record {
+        harts_are = p.harts_are;
+        below = p.below;
+        claimed = p.claimed;
+        knows = p.knows;
+        seen_is = p.seen_is;
+        own_is = p.own_is;
+        ends = p.ends;
+        holds = λ h. absurd (let l = (p.holds h).0 in omega arith);
+      })))
 
   -- what the holder is told
   told : (s : State S (View E)) (k : BookHolds items room hart seat size s) (x : Sitter E) (v : S) → Fits items room hart seat size k.owners k.log k.gone k.page (get_or s.words 0 0) k.who k.round x
@@ -255,56 +234,36 @@ module _ {S E : Type 0} (items : S → List E) (room : S → ℕ) (hart seat : E
       (let t = sum_set held s.views id (x ∷ []) (y ∷ []) at in let u = held_by x true holding in let l = k.locked held_facts.0 in omega arith) in
       let P : Sitter E → Type 0 = Fits items room hart seat size k.owners k.log k.gone k.page (get_or s.words 0 0) k.who k.round in
       let Q : ℕ → Sitter E → Type 0 = λ l. Fits items room hart seat size k.owners k.log k.gone k.page l k.who k.round in
+      rehold items room hart seat size s (stepped s 0 new id ((0, v) ∷ []) (y ∷ []) gives) k k.who (length-set s.words 0 new ∙ wide) word
+      (same_sum one s.views id (x ∷ []) (y ∷ []) at refl) (λ n. same_sum (numbered n) s.views id (x ∷ []) (y ∷ []) at refl)
+      (λ z. (
+        (let b = ap (λ (l : List E). length l) held_facts.2 in omega arith),
+        held_less,
+        (v, set_here s.homes 0 (some v) (omega arith), stands ∙ held_facts.3, ⊎_elim (λ (own : x.harts ≤ room v). let h = f.harts_are in omega arith) (λ (all : size.harts ≤ room v). all) wide_room),
+      ))
+      (λ z. absurd (omega arith))
+      (subst (λ (l : ℕ). (j : ℕ) (w : View E) → get_elem? (set s.views id (y ∷ [])) j ≡ some w → Each (Q l) w) (sym lock)
+      (refit items room hart seat size P (Q new) s k id x y at f.below k.fits
       record {
-        owners = k.owners;
-        log = k.log;
-        gone = k.gone;
-        page = k.page;
-        who = k.who;
-        round = k.round;
-        wide = length-set s.words 0 new ∙ wide;
-        counts = word ∙ k.counts;
-        begun = k.begun;
-        low = k.low;
-        small = k.small;
-        log_is = k.log_is;
-        taken = k.taken;
-        entries = k.entries;
-        whose = k.whose;
-        apart = k.apart;
-        here = k.here;
-        settled = k.settled;
-        free = λ z. (
-          (let b = ap (λ (l : List E). length l) held_facts.2 in omega arith),
-          held_less,
-          (v, set_here s.homes 0 (some v) (omega arith), stands ∙ held_facts.3, ⊎_elim (λ (own : x.harts ≤ room v). let h = f.harts_are in omega arith) (λ (all : size.harts ≤ room v). all) wide_room),
-        );
-        locked = λ z. absurd (omega arith);
-        seats = λ o b. same_sum (numbered o) s.views id (x ∷ []) (y ∷ []) at refl ∙ k.seats o b;
-        all = same_sum one s.views id (x ∷ []) (y ∷ []) at refl ∙ k.all;
-        fits = subst (λ (l : ℕ). (j : ℕ) (w : View E) → get_elem? (set s.views id (y ∷ [])) j ≡ some w → Each (Q l) w) (sym lock)
-            (refit items room hart seat size P (Q new) s k id x y at f.below k.fits
-            record {
-              harts_are = f.harts_are;
-              below = f.below;
-              claimed = f.claimed;
-              knows = f.knows;
-              seen_is = f.seen_is;
-              own_is = f.own_is;
-              ends = f.ends;
-              holds = λ h. absurd (true≢false (sym h));
-            }
-            (λ z p ne. record {
-              harts_are = p.harts_are;
-              below = p.below;
-              claimed = p.claimed;
-              knows = p.knows;
-              seen_is = p.seen_is;
-              own_is = p.own_is;
-              ends = p.ends;
-              holds = λ h. absurd (ne (sym (p.holds h).1 ∙ held_facts.1));
-            }));
+        harts_are = f.harts_are;
+        below = f.below;
+        claimed = f.claimed;
+        knows = f.knows;
+        seen_is = f.seen_is;
+        own_is = f.own_is;
+        ends = f.ends;
+        holds = λ h. absurd (true≢false (sym h));
       }
+      (λ z p ne. record {
+        harts_are = p.harts_are;
+        below = p.below;
+        claimed = p.claimed;
+        knows = p.knows;
+        seen_is = p.seen_is;
+        own_is = p.own_is;
+        ends = p.ends;
+        holds = λ h. absurd (ne (sym (p.holds h).1 ∙ held_facts.1));
+      })))
 
   pub returns : (slots id : ℕ) (m : Me S (View E)) (x : Sitter E) (v : S) (new : ℕ) → slots ≡ 1 → m.0 ≡ x ∷ [] → m.1 ≡ (0, v) ∷ [] → x.holding ≡ true → items v ≡ x.page → (x.harts ≤ room v) ⊎ (size.harts ≤ room v) → new ≡ length x.seen + 1
       → Allows (BookHolds items room hart seat size) slots id m 0 (λ _. new) (λ _. Returned items room hart seat (step slots 0 new 0 none) m new)

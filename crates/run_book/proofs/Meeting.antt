@@ -11,7 +11,7 @@ use Rattle.run_book.specs.declared.sitter.Sitter.{Sitter}
 use Rattle.run_book.specs.declared.sitter.Size.{Size}
 use Rattle.run_book.specs.Lists.{Begins, Each}
 use Rattle.run_book.specs.Rule.{Compared, Fits, BookHolds, Met, View}
-use Rattle.run_book.specs.Sitters.{held, numbered, one, others_of, sitter, with_seen}
+use Rattle.run_book.specs.Sitters.{numbered, others_of, sitter, with_seen}
 use Rattle.run_book.proofs.Dealing.{resight}
 use Rattle.run_book.proofs.Lists.{begins_longer, begins_same, elem_one, lacks_from}
 use Rattle.run_book.proofs.Sums.{numbered_at, numbered_self, same_sum, sum_one}
@@ -37,11 +37,8 @@ module _ {S E : Type 0} (items : S → List E) (room : S → ℕ) (hart seat : E
         holds = λ h. absurd (true≢false (sym h ∙ idle));
       } in
       subst (λ (z : List ℕ). BookHolds items room hart seat size record { words = z; homes = s.homes; views = set s.views id v }) (sym words)
-      (resight items room hart seat size s k (set s.views id v) record {
-        held_are = same_sum held s.views id (x ∷ y ∷ []) v at refl;
-        all_are = same_sum one s.views id (x ∷ y ∷ []) v at refl;
-        numbered_are = λ n. same_sum (numbered n) s.views id (x ∷ y ∷ []) v at refl;
-      }
+      (resight items room hart seat size s k (set s.views id v)
+      (λ f same. same_sum f s.views id (x ∷ y ∷ []) v at (let a = same x es in let b = same y es in omega arith))
       (λ j u there. ⊎_elim
       (λ (t : (j ≡ id) × (v ≡ u)). subst (Each P) t.1 (seen x f.0 idle_x, (seen y f.1.0 idle_y, tt)))
       (λ (t : (j ≢ id) × (get_elem? s.views j ≡ some u)). k.fits j u t.1)
