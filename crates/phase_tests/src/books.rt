@@ -9,6 +9,7 @@ use std::alloc::Global;
 use std::process::Abort;
 use std::sync::Wait;
 use std::test::Fail;
+use std::thread::{self, Threads};
 
 /// An entry that has its ticket alone.
 #[derive(Drop)]
@@ -61,13 +62,13 @@ fn one_alone<R: Abort + Wait>(rt: &R, alloc: Global) {
     let (book, mut seat, _) = RunBook::<Mark>::open_for_run(alloc, 2, 1).expect(rt, "memory");
     let blank = Vec::with_capacity(alloc, 2).expect(rt, "memory");
     assert!(rt; seat.own() == 0 && put_one(&book, &mut seat, 0) && seat.own() == 1);
-    assert!(rt; put_one(&book, &mut seat, 0) && !put_one(&book, &mut seat, 0));
+    assert!(rt; put_one(&book, &mut seat, 0) && !put_one(&book, &mut seat, 0) && seat.seen() == 2);
     let history = book
         .take_whole(rt, &mut seat, blank)
         .expect(rt, "a whole round");
     assert!(rt; has_two(&Gathered::new(0, 2, history)));
     assert!(rt; !put_one(&book, &mut seat, 0) && put_one(&book, &mut seat, 1));
-    assert!(rt; seat.own() == 3);
+    assert!(rt; (seat.own(), seat.seen()) == (3, 3));
 }
 
 /// Two seats of one thread put a hart each, and meet, and the book is closed.
@@ -76,13 +77,69 @@ fn two_meet<R: Abort>(rt: &R, alloc: Global) {
     let mut second = seats.pop().expect(rt, "two seats");
     let mut first = seats.pop().expect(rt, "two seats");
     assert!(rt; put_one(&book, &mut first, 0) && put_one(&book, &mut second, 0));
+    assert!(rt; (first.seen(), second.seen()) == (1, 2));
     book.meet(&mut first, &mut second);
+    assert!(rt; (first.seen(), second.seen()) == (2, 2));
     assert!(rt; (first.own(), second.own()) == (1, 1));
     let mut all = Vec::with_capacity(alloc, 2).expect(rt, "memory");
     all.push_reserved(first);
     all.push_reserved(second);
     let history = book.close(all);
     assert!(rt; has_two(&Gathered::new(0, 2, history)));
+}
+
+/// Claims harts of round 0 and puts each, until there is none left.
+fn put_all<R: Wait>(rt: &R, book: &RunBook<Mark>, s: &mut Seat<Mark>)
+    requires { IsHonest (λ e. turn_of e.ticket.round e.ticket.hart) (λ e. e.ticket.seat)
+        book.now.table book.now.harts s.old }
+    ensures seat { IsHonest (λ e. turn_of e.ticket.round e.ticket.hart) (λ e. e.ticket.seat)
+        book.now.table book.now.harts s.new }
+{
+    for _ in rt.forever() {
+        let Some(ticket) = book.claim(s, 0) else {
+            return;
+        };
+        book.put(rt, s, Mark { ticket });
+    }
+    unreachable!()
+}
+
+/// Each of two seats puts what it can of round 0 on a thread of its own.
+fn put_beside<R: Threads + Wait + Sync>(
+    rt: &R,
+    book: &RunBook<Mark>,
+    first: &mut Seat<Mark>,
+    second: &mut Seat<Mark>,
+)
+    requires first { IsHonest (λ e. turn_of e.ticket.round e.ticket.hart) (λ e. e.ticket.seat)
+        book.now.table book.now.harts first.old }
+    requires second { IsHonest (λ e. turn_of e.ticket.round e.ticket.hart) (λ e. e.ticket.seat)
+        book.now.table book.now.harts second.old }
+    ensures first { IsHonest (λ e. turn_of e.ticket.round e.ticket.hart) (λ e. e.ticket.seat)
+        book.now.table book.now.harts first.new }
+    ensures second { IsHonest (λ e. turn_of e.ticket.round e.ticket.hart) (λ e. e.ticket.seat)
+        book.now.table book.now.harts second.new }
+{
+    thread::join_mut(
+        rt,
+        &mut || put_all(rt, book, first),
+        &mut || put_all(rt, book, second),
+    );
+}
+
+/// Two seats of two threads put the harts of a round between them, and meet, and the book is closed.
+fn two_share<R: Abort + Threads + Wait + Sync>(rt: &R, alloc: Global) {
+    let (book, mut seats) = RunBook::<Mark>::open(alloc, 64, 2).expect(rt, "memory");
+    let mut second = seats.pop().expect(rt, "two seats");
+    let mut first = seats.pop().expect(rt, "two seats");
+    put_beside(rt, &book, &mut first, &mut second);
+    book.meet(&mut first, &mut second);
+    assert!(rt; (first.seen(), second.seen()) == (64, 64));
+    assert!(rt; first.own().checked_add(second.own()) == Some(64));
+    let mut all = Vec::with_capacity(alloc, 2).expect(rt, "memory");
+    all.push_reserved(first);
+    all.push_reserved(second);
+    assert!(rt; Gathered::new(0, 64, book.close(all)).is_complete());
 }
 
 /// A ticket that is dropped leaves its hart out.
@@ -106,6 +163,12 @@ fn a_seat_alone_puts_at_its_first_try(rt: HostRuntime) -> Result<(), Fail> {
 #[test]
 fn two_seats_meet(rt: HostRuntime) -> Result<(), Fail> {
     two_meet(&rt, rt.alloc());
+    Ok(())
+}
+
+#[test]
+fn two_threads_share_a_round(rt: HostRuntime) -> Result<(), Fail> {
+    two_share(&rt, rt.alloc());
     Ok(())
 }
 
