@@ -21,9 +21,6 @@ pub record Adding (adopts : Bool) (round : ℕ) (os : List HartEnd) (old : Trace
   pub harts : harts_of ps ≡ harts_of os
   pub rest : (k : ℕ) (o : HartEnd) → i ≤ k → get_or ps k o ≡ get_or os k o
 
-pub adding_first : (adopts : Bool) (round : ℕ) (os : List HartEnd) (old : Traced) → HasPlaces adopts os old → Adding adopts round os old 0 os old
-adding_first adopts round os old places = record { events = refl; opening = refl; places = places; room = omega arith; harts = refl; rest = λ k o low. refl }
-
 drop_next : (os : List HartEnd) (i : ℕ) (o : HartEnd) → i < length os → drop i os ≡ get_or os i o ∷ drop (i + 1) os
 drop_next os i o low = drop-cons os i o low ∙ let one : suc i ≡ i + 1 = omega arith in ap (λ (j : ℕ). get_or os i o ∷ drop j os) one
 
@@ -90,11 +87,3 @@ pub record Added (adopts : Bool) (round : ℕ) (os : List HartEnd) (old : Traced
   pub opening : t.opening ≡ old.opening
   pub room : old.room ≤ t.room + count_copied adopts os
   pub harts : harts_of ps ≡ harts_of os
-
-pub adding_over : (adopts : Bool) (round : ℕ) (os : List HartEnd) (old : Traced) (i : ℕ) (ps : List HartEnd) (t : Traced) → length os ≤ i → Adding adopts round os old i ps t → Added adopts round os old ps t
-adding_over adopts round os old i ps t over a = record {
-  events = sym (append-nil t.events) ∙ ap (λ (xs : List HartEnd). t.events ++ events_of_ends round i xs) (sym (drop_all i os over)) ∙ a.events;
-  opening = a.opening;
-  room = omega (arith, a.room);
-  harts = a.harts;
-}
