@@ -1,0 +1,5 @@
+pub mod Checking
+pub mod EarlyMaps
+pub mod Flows
+pub mod Laws
+pub mod Windows

@@ -1,0 +1,10 @@
+mod Current
+mod Following
+mod Nodes
+mod Past
+mod Serving
+mod Settled
+mod Shorter
+mod SinceLists
+mod SinceMoves
+mod SinceRuns
