@@ -293,7 +293,7 @@ module _ (s : Setting) (k h i : ℕ) (start : Hart) (moves : List Move) (state :
       }
 
 -- the stores of each length, one after another
-module _ (k : ℕ) (image : Memory) (hs : List Hart) (c : ConsoleState) (IsNode : List Stored → Type 0) (sized : AreFresh hs) (enough : length c.output + k * length hs ≤ output_room) (closed : IsClosed k image hs IsNode)
+module _ (k : ℕ) (image : Memory) (hs : List Hart) (c : ConsoleState) (is_node : List Stored → Bool) (sized : AreFresh hs) (enough : length c.output + k * length hs ≤ output_room) (closed : IsClosed k image hs is_node)
     (q : Standing) (g : List ℕ) (e : Executes image (at_start hs c) q) (meets : Allows (opening_bytes image) q g) (short : AreShort k q) where
   pub has_room : HasRoom c q
   has_room =
@@ -302,8 +302,8 @@ module _ (k : ℕ) (image : Memory) (hs : List Hart) (c : ConsoleState) (IsNode 
       let same : k * length q.harts ≡ k * length hs = ap (λ (m : ℕ). k * m) stay in
       omega (arith, few, same, enough)
 
-  next_node : (n h w : ℕ) (start : Hart) → length (stores_of n q.events g) ≡ n → IsNode (stores_of n q.events g) → h < length hs → start ≡ get_or hs h start →
-      (event q.events w).hart ≡ h → is_store (event q.events w) ≡ true → time_of n q.events g w ≡ n → IsNode (stores_of n q.events g ++ told (event q.events w) ∷ [])
+  next_node : (n h w : ℕ) (start : Hart) → length (stores_of n q.events g) ≡ n → is_node (stores_of n q.events g) ≡ true → h < length hs → start ≡ get_or hs h start →
+      (event q.events w).hart ≡ h → is_store (event q.events w) ≡ true → time_of n q.events g w ≡ n → is_node (stores_of n q.events g ++ told (event q.events w) ∷ []) ≡ true
   next_node n h w start many node small at here store now =
       closed.grows (stores_of n q.events g) h start (told (event q.events w)) node small at
       (elim (all_along image hs c q g e meets has_room n h start many small at (sized h start small at)) [
@@ -321,7 +321,7 @@ module _ (k : ℕ) (image : Memory) (hs : List Hart) (c : ConsoleState) (IsNode 
       the_setting : Setting
       the_setting = the image q g n (all_registers_are image hs c q e) meets many h start (length c.output) has_room
 
-  pub nodes_all : (n : ℕ) → n ≤ length (all_stores q.events g) → IsNode (stores_of n q.events g)
+  pub nodes_all : (n : ℕ) → n ≤ length (all_stores q.events g) → is_node (stores_of n q.events g) ≡ true
   nodes_all zero l = closed.begins
   nodes_all (suc n) l =
       let many : length (stores_of n q.events g) ≡ n = let t = length-take n (all_stores q.events g) in omega (arith, t, l) in
@@ -333,8 +333,8 @@ module _ (k : ℕ) (image : Memory) (hs : List Hart) (c : ConsoleState) (IsNode 
       let pos = f.position in
       let now : time_of n q.events g f.index ≡ n = omega (arith, pos) in
       let grown = next_node n (event q.events f.index).hart f.index start.0 many (nodes_all n (omega (arith, l))) (omega (arith, small, stay)) start.1 refl f.stores now in
-      subst IsNode (sym (take-suc (all_stores q.events g) n no_store (omega (arith, l)) ∙ ap (λ (y : Stored). stores_of n q.events g ++ y ∷ []) f.told)) grown
+      subst (λ (m : List Stored). is_node m ≡ true) (sym (take-suc (all_stores q.events g) n no_store (omega (arith, l)) ∙ ap (λ (y : Stored). stores_of n q.events g ++ y ∷ []) f.told)) grown
 
 pub closed_have_all : ClosedListsHaveAll
 closed_have_all k image hs c is_node sized enough closed q g e meets short n many =
-    nodes_all k image hs c (λ (m : List Stored). is_node m ≡ true) sized enough closed q g e meets short n (let t = length-take n (all_stores q.events g) in omega (arith, t, many))
+    nodes_all k image hs c is_node sized enough closed q g e meets short n (let t = length-take n (all_stores q.events g) in omega (arith, t, many))

@@ -65,11 +65,11 @@ KnowsCalls k image h m opening start =
     (vs : List Move) (a : RunState) → length vs ≤ k → Runs image h m opening (run_start start) vs a → MayPay h m vs a → IsOpenCall image a → ⊥
 
 -- lists of stores that are closed: the empty one, and with each one those that it can be followed by
-pub record IsClosed (k : ℕ) (image : Memory) (hs : List Hart) (IsNode : List Stored → Type 0) : Type 0 where
-  pub begins : IsNode []
-  pub grows : (m : List Stored) (h : ℕ) (start : Hart) (s : Stored) → IsNode m → h < length hs → start ≡ slice_index_or hs h start →
-      IsOffered k image h m (opening_bytes image) start s → IsNode (m ++ s ∷ [])
-  pub calls : (m : List Stored) (h : ℕ) (start : Hart) → IsNode m → h < length hs → start ≡ slice_index_or hs h start →
+pub record IsClosed (k : ℕ) (image : Memory) (hs : List Hart) (is_node : List Stored → Bool) : Type 0 where
+  pub begins : is_node [] ≡ true
+  pub grows : (m : List Stored) (h : ℕ) (start : Hart) (s : Stored) → is_node m ≡ true → h < length hs → start ≡ slice_index_or hs h start →
+      IsOffered k image h m (opening_bytes image) start s → is_node (m ++ s ∷ []) ≡ true
+  pub calls : (m : List Stored) (h : ℕ) (start : Hart) → is_node m ≡ true → h < length hs → start ≡ slice_index_or hs h start →
       KnowsCalls k image h m (opening_bytes image) start
 
 -- each hart is as it begins, and no hart did more than k instructions
@@ -83,6 +83,6 @@ AreShort k q = (h : ℕ) → count_by (λ (v : Event). v.hart == h) q.events ≤
 abbrev pub ClosedListsHaveAll : Type 0
 ClosedListsHaveAll =
     (k : ℕ) (image : Memory) (hs : List Hart) (c : ConsoleState) (is_node : List Stored → Bool) → AreFresh hs → length c.output + k * length hs ≤ output_room →
-    IsClosed k image hs (λ m. is_node m ≡ true) →
+    IsClosed k image hs is_node →
     (q : Standing) (g : List ℕ) → Executes image (at_start hs c) q → Allows (opening_bytes image) q g → AreShort k q →
     (n : ℕ) → length (stores_of n q.events g) ≡ n → is_node (stores_of n q.events g) ≡ true

@@ -1,9 +1,0 @@
-mod Accesses
-mod Behind
-mod Bounds
-mod LateBehind
-mod Loads
-mod Moves
-mod Numbers
-mod Points
-mod Raising

@@ -1,7 +1,0 @@
-pub mod ApartRuns
-pub mod CurrentRuns
-pub mod NodeWalks
-pub mod Serving
-pub mod SettledWalks
-pub mod Since
-pub mod SinceMoves
