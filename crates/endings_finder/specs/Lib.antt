@@ -1,3 +1,2 @@
 pub mod AllEndings
 pub mod Checked
-pub mod Fences
