@@ -2,9 +2,7 @@
 #![tactic(auto)]
 
 mod endings;
-mod searches;
 mod status;
 mod telling;
 
 pub use endings::all_command;
-pub use searches::{EndingsSearcher, EndingsSearches};

@@ -1,4 +1,3 @@
 mod Numerals
 pub mod NamedWords
 pub mod Saved
-pub mod Ended
