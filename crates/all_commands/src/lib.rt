@@ -2,7 +2,9 @@
 #![tactic(auto)]
 
 mod endings;
+mod searches;
 mod status;
 mod telling;
 
 pub use endings::all_command;
+pub use searches::{EndingsSearcher, EndingsSearches};

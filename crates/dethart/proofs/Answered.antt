@@ -6,8 +6,7 @@ use Rattle.clap.specs.declared.error.kind.ErrorKind.{ErrorKind}
 use Rattle.clap.specs.declared.error.kind.ErrorKind.TheVariants.{DisplayHelp, DisplayVersion, OutOfMemory}
 use Rattle.command_line.specs.Faults.{line_fault}
 use Rattle.command_line.specs.declared.settings.Command.{Command}
-use Rattle.dethart.specs.Answers.{AskForText, IsDoneBy, OrRefused}
-use Rattle.program_files.specs.Relations.{FileRelations}
+use Rattle.dethart.specs.Answers.{AskForText, FileRelations, IsDoneBy, OrRefused}
 use Rattle.dethart.specs.Status.{status_of}
 use Rattle.dethart.specs.declared.failure.Failure.{Failure}
 use Rattle.dethart.specs.declared.failure.Failure.TheVariants as failures

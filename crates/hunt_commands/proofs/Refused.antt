@@ -12,7 +12,6 @@ use Rattle.hunter.specs.declared.error.HuntError.{HuntError}
 use Rattle.hunter.specs.declared.error.HuntError.TheVariants as hunting
 use Rattle.hunter.specs.declared.settings.HuntSettings.{HuntSettings}
 use Rattle.program_files.specs.declared.fault.NamingFault.{NamingFault}
-use Rattle.weak_hunter.specs.WeakHunts.{IsWeakReason}
 use Rattle.weak_hunter.specs.declared.error.WeakHuntError.{WeakHuntError}
 use Rattle.weak_hunter.specs.declared.error.WeakHuntError.TheVariants as hunts
 
@@ -90,12 +89,3 @@ guest_told_so {X} search fault s image e good settings errors loads = record {
   where
     same : (r : HuntError) → ◌≡◌ {A = Result X HuntError} (Err e) (Err r) → e ≡ r
     same r q = cc
-
--- a weak search is refused as a hunt is, or since an execution isn't confirmed
-pub weak_refusal : (weak : Bool) (s : HuntSettings) (image : List ℕ) (failed other : Type 0) (e : WeakHuntError) → weak ≡ true → (failed → other) →
-    IsWeakReason s image e ⊎ ((e ≡ hunts.Hunt (hunting.Run refusals.SinkFailed)) × failed) → IsHuntRefusal weak s image other e
-weak_refusal weak s image failed other (hunts.Hunt e) is more h = ⊎_elim (λ r. inl r) (λ q. inr (same e q.0, more q.1)) h
-  where
-    same : (e : HuntError) → hunts.Hunt e ≡ hunts.Hunt (hunting.Run refusals.SinkFailed) → e ≡ hunting.Run refusals.SinkFailed
-    same e q = cc
-weak_refusal weak s image failed other (hunts.Unconfirmed n) is more h = is

@@ -14,7 +14,9 @@ mod shrinking;
 mod status;
 mod table_files;
 mod tabling;
+mod weak_hunts;
 
+pub use finds::Finds;
 pub use hunting::hunt_command;
 pub use merging::merge_command;
 pub use planning::plan_command;
@@ -24,3 +26,4 @@ pub use settings::{named_in, program_settings, settings_of, tell_decimals};
 pub use shrinking::shrink_command;
 pub use status::hunt_status;
 pub use table_files::{TableFile, read_table_of};
+pub use weak_hunts::WeakHunts;

@@ -12,6 +12,7 @@ ghost use Rattle.program_files.specs.Failures.{IsUnprinted};
 ghost use Rattle.weak_hunter.specs.Refusals.{weak_hunt_number};
 ghost use Rattle.weak_hunter.specs.declared.error.WeakHuntError.TheVariants.{Hunt};
 
+use crate::weak_hunts::WeakHunts;
 use host_io::Sink;
 use hunter::{HuntSettings, hunt};
 use plan_hunt::{HuntObserver, Tally};
@@ -19,24 +20,27 @@ use program_files::ProgramFiles;
 use std::alloc::Global;
 use std::sync::Wait;
 use std::thread::Threads;
-use weak_hunter::{WeakHuntError, hunt_weakly};
+use weak_hunter::WeakHuntError;
 
 /// Hunts by plans or, where the table is to be a weak one, by executions of so many steps, and writes the table of endings. Answers it.
-pub(crate) fn write_rows<S: Sink, O: HuntObserver + Sync, R: Threads + Wait + Sync>(
+pub(crate) fn write_rows<S: Sink, W: WeakHunts, O: HuntObserver + Sync, R: Threads + Wait + Sync>(
     threads: &R,
     alloc: Global,
+    weakly: &W,
     files: &ProgramFiles,
     settings: &HuntSettings,
     steps: u32,
     observer: &O,
     out: &mut S,
 ) -> Result<Tally, WeakHuntError>
-    ensures hunts { IfOk result (λ t. IsTableBy settings.now.header.is_weak settings.now
+    ensures hunts { IfOk result (λ t.
+        IsTableBy W.hunts steps settings.now.header.is_weak settings.now
         files.now.image.items files.now.input.items t.done t.rows.items ×
         (S.took out.new ≡ S.took out.old ++ table_text (with_count settings.now.header t.done)
         t.rows.items)) }
     ensures begun { OnErr result ((S.took out.new ≡ S.took out.old) ⊎
-        ((n : ℕ) × (rows : List TableRow) × IsTableBy settings.now.header.is_weak settings.now
+        ((n : ℕ) × (rows : List TableRow) ×
+        IsTableBy W.hunts steps settings.now.header.is_weak settings.now
         files.now.image.items files.now.input.items n rows ×
         BeganText (S.took out.old) (S.took out.new)
         (table_text (with_count settings.now.header n) rows))) }
@@ -53,9 +57,8 @@ pub(crate) fn write_rows<S: Sink, O: HuntObserver + Sync, R: Threads + Wait + Sy
     ensures ranges { IfOk result (λ _. has_bad_range settings.now ≡ false) }
 {
     let (image, input) = (files.image.as_slice(), files.input.as_slice());
-    let is_weak = settings.header.is_weak;
-    if is_weak {
-        return hunt_weakly(threads, alloc, image, input, settings, steps, observer, out);
+    if settings.header.is_weak {
+        return weakly.hunt_weakly(threads, alloc, image, input, settings, steps, out);
     }
     match hunt(threads, alloc, image, input, settings, observer, out) {
         Ok(tally) => Ok(tally),

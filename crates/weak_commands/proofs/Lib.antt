@@ -1,3 +1,4 @@
 mod Numerals
 pub mod NamedWords
 pub mod Saved
+pub mod Ended

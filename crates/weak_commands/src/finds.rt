@@ -6,36 +6,38 @@ use command_line::Fences;
 use execution_scripts::ExecutionFile;
 use fence_finder::FenceObserver;
 use fence_table::NamedGap;
-use program_files::{ProgressLine, World};
+use program_files::{Files, Messages, ProgressLine};
 use std::alloc::{AllocError, Global};
 use std::sync::atomic::{AtomicUsize, Ordering};
 
 /// Says on standard error the line that repeats an execution at each new place, where the line asks for progress, writes the execution to a
 /// file, where it names a folder, and tells who looks on of everything.
 #[derive(Drop)]
-pub(crate) struct FenceFinds<'a, P, W> {
+pub struct FenceFinds<'a, P, M, F> {
     alloc: Global,
     /// None where nothing is told.
     repeating: Option<Repeating>,
     progress: &'a P,
-    world: &'a W,
+    messages: &'a M,
+    files: F,
     /// Where executions are kept, if they are.
     folder: Option<&'a str>,
     /// How many were kept.
     kept: AtomicUsize,
 }
 
-impl<'a, P: ProgressLine, W: World + Copy> FenceFinds<'a, P, W> {
+impl<'a, P: FenceObserver + ProgressLine, M: Messages, F: Files + Copy> FenceFinds<'a, P, M, F> {
     /// The finds of a search that begins now.
     ///
     /// # Errors
     ///
     /// The allocator's alone.
-    pub(crate) fn new(
+    pub fn new(
         alloc: Global,
         asked: &Fences<'a>,
         progress: &'a P,
-        world: &'a W,
+        messages: &'a M,
+        files: F,
     ) -> Result<Self, AllocError> {
         let repeating = if asked.search.program.progress {
             Some(Repeating::of(alloc, asked)?)
@@ -46,7 +48,8 @@ impl<'a, P: ProgressLine, W: World + Copy> FenceFinds<'a, P, W> {
             alloc,
             repeating,
             progress,
-            world,
+            messages,
+            files,
             folder: asked.keep,
             kept: AtomicUsize::new(0),
         })
@@ -58,14 +61,24 @@ impl<'a, P: ProgressLine, W: World + Copy> FenceFinds<'a, P, W> {
             return;
         }
         let number = self.kept.fetch_add(1, Ordering::SeqCst).saturating_add(1);
-        let mut world = *self.world;
-        let _unwritten = keep_found(&mut world, self.alloc, folder, number, execution);
+        let mut files = self.files;
+        let _unwritten = keep_found(&mut files, self.alloc, folder, number, execution);
     }
 }
 
-impl<P: ProgressLine, W: World + Copy> FenceObserver for FenceFinds<'_, P, W> {
-    fn before_block(&self, _done: u32, failing: usize) -> u32 {
-        self.progress.before_numbers(failing)
+impl<P: FenceObserver + ProgressLine, M, F> ProgressLine for FenceFinds<'_, P, M, F> {
+    /// How many there are in all is known before.
+    fn expect(&mut self, _all: u32) {}
+
+    fn end(&self) {
+        self.progress.end();
+    }
+}
+
+impl<P: FenceObserver + ProgressLine, M: Messages, F: Files + Copy> FenceObserver
+    for FenceFinds<'_, P, M, F> {
+    fn before_block(&self, done: u32, failing: usize) -> u32 {
+        self.progress.before_block(done, failing)
     }
 
     fn has_time(&self) -> bool {
@@ -77,7 +90,7 @@ impl<P: ProgressLine, W: World + Copy> FenceObserver for FenceFinds<'_, P, W> {
     }
 
     fn after_rounds(&self, rounds: u32) {
-        self.progress.after_execution(rounds);
+        self.progress.after_rounds(rounds);
     }
 
     fn found(&self, gap: &NamedGap, number: u32, execution: Option<&ExecutionFile>) {
@@ -88,7 +101,7 @@ impl<P: ProgressLine, W: World + Copy> FenceObserver for FenceFinds<'_, P, W> {
             self.progress.end();
             let (earlier, later) = (gap.earlier.pc, gap.later.pc);
             let said = format_args!("found between {earlier:016x} and {later:016x}");
-            repeating.tell(self.world, said, number, false);
+            repeating.tell(self.messages, said, number, false);
         }
     }
 }

@@ -6,11 +6,16 @@ mod executing;
 mod fences;
 mod finds;
 mod keeping;
+mod makers;
 mod places;
 mod repeating;
+mod searches;
 mod status;
 mod telling;
 
 pub use executing::execution_command;
 pub use fences::fences_command;
+pub use finds::FenceFinds;
 pub use keeping::keep;
+pub use makers::{WeakExecuter, WeakExecutions};
+pub use searches::FenceSearches;

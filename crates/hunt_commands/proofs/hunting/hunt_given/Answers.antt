@@ -44,7 +44,7 @@ returns-in_err-answer-in-None-clause-begun g c =
         ends = c.in_ok-settings.ensures.ends;
         program = rw c.deref-2.ensures.value at c.in_ok-settings.ensures.program;
         ranges = ranges_so asked.search image bytes s there named ranges;
-        table = table_so asked.weak s image input b.0 b.1 numbers.is_weak b.2;
+        table = table_so g.W.WeakHunts.hunts asked.steps asked.weak s image input b.0 b.1 numbers.is_weak b.2;
       },
       b.3,
     )) c.in_err-answer-in-None.ensures.begun)
@@ -93,7 +93,7 @@ returns-clause-hunts g c =
         ends = c.in_ok-settings.ensures.ends;
         program = rw c.deref-2.ensures.value at c.in_ok-settings.ensures.program;
         ranges = ranges_so asked.search image bytes s there named ranges;
-        table = table_so asked.weak s image input tally.done tally.rows.items numbers.is_weak h.0;
+        table = table_so g.W.WeakHunts.hunts asked.steps asked.weak s image input tally.done tally.rows.items numbers.is_weak h.0;
       },
       h.1,
       refl,

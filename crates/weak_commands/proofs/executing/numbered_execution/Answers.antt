@@ -10,11 +10,11 @@ same a b q = cc
 one_of : {X : Type 0} (a b d : WeakHuntError) → ◌≡◌ {A = Result X WeakHuntError} (Err a) (Err b) ⊎ ◌≡◌ {A = Result X WeakHuntError} (Err a) (Err d) → (a ≡ b) ⊎ (a ≡ d)
 one_of a b d h = ⊎_elim (λ q. inl (same a b q)) (λ q. inr (same a d q)) h
 
-pub returns-in_err-weak_execution-clause-errors : goal.returns-in_err-weak_execution-clause-errors
-returns-in_err-weak_execution-clause-errors g c =
+pub returns-in_err-execute_weakly-clause-errors : goal.returns-in_err-execute_weakly-clause-errors
+returns-in_err-execute_weakly-clause-errors g c =
     let given = c.in_ok-given.given in
-    let e = c.in_err-weak_execution.field-0.0 in
-    let p = err_from_is_err_and c.from_residual-in_err-weak_execution.result c.from_residual-in_err-weak_execution.ensures.1 in
+    let e = c.in_err-execute_weakly.field-0.0 in
+    let p = err_from_is_err_and c.from_residual-in_err-execute_weakly.result c.from_residual-in_err-execute_weakly.ensures.1 in
     rw (p.1, p.2) (inr (record {
       image = given.image.items;
       input = given.input.items;
@@ -23,9 +23,9 @@ returns-in_err-weak_execution-clause-errors g c =
       program = c.program_settings-settings.ensures.program;
       error = e;
       is_error = refl;
-      of_settings = λ r fault. same e _ (c.in_err-weak_execution.ensures.settings r fault);
-      of_image = λ cause none least. one_of e _ _ (c.in_err-weak_execution.ensures.image cause none (rw c.as_slice-image.ensures.value least));
-      reason = λ none. rw c.as_slice-image.ensures.value at (c.in_err-weak_execution.ensures.errors none);
+      of_settings = λ r fault. same e _ (c.in_err-execute_weakly.ensures.settings r fault);
+      of_image = λ cause none least. one_of e _ _ (c.in_err-execute_weakly.ensures.image cause none (rw c.as_slice-image.ensures.value least));
+      reason = λ none. rw c.as_slice-image.ensures.value at (c.in_err-execute_weakly.ensures.errors none);
     }))
 
 pub returns-clause-numbered : goal.returns-clause-numbered
@@ -37,5 +37,6 @@ returns-clause-numbered g c =
       given = c.in_ok-given.ensures.program;
       settings = c.program_settings-settings.result;
       program = c.program_settings-settings.ensures.program;
-      allowed = rw (c.as_slice-image.ensures.value, c.as_slice-input.ensures.value) at c.in_ok-weak_execution.ensures.allowed;
+      allowed = rw (c.as_slice-image.ensures.value, c.as_slice-input.ensures.value) at c.in_ok-execute_weakly.ensures.allowed;
+      made = rw (c.as_slice-image.ensures.value, c.as_slice-input.ensures.value) at c.in_ok-execute_weakly.ensures.makes;
     }

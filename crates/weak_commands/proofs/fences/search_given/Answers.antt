@@ -1,15 +1,12 @@
-use Rattle.std.proofs.Common.{◌≡◌, ◌∙◌, ◌++◌, ℕ, List, None, Option, Some, ap, inl, inr, option_map, refl, subst, true, ⊎_elim}
+use Rattle.std.proofs.Common.{◌≡◌, ◌∙◌, None, Option, Some, ap, inl, inr, refl, subst, true, ⊎_elim}
 use Rattle.std.proofs.lemmas.Result.{err_from_is_err_and}
+use Rattle.weak_commands.proofs.Ended.{refusal_so}
 use Rattle.hunt_commands.specs.Settings.{IsNamed}
 use Rattle.hunt_commands.proofs.Ranges.{none_bad, ranges_so}
-use Rattle.hunt_commands.proofs.Refused.{fault_so, told_so, weak_refusal}
+use Rattle.hunt_commands.proofs.Refused.{fault_so, told_so}
 use Rattle.hunter.specs.Hunts.{hunt_fault}
 use Rattle.program_files.specs.declared.fault.NamingFault.{NamingFault}
 use Rattle.program_files.proofs.Begun.{on_err}
-use Rattle.program_files.proofs.Failing.{why_cut}
-use Rattle.host_io.proofs.Answered.{begun}
-use Rattle.host_io.specs.Taken.{BeganText}
-use Rattle.weak_hunter.specs.declared.error.WeakHuntError.TheVariants.{Hunt}
 use Rattle.weak_commands.proofs.fences.search_given.Goals as goal
 
 pub returns-in_err-assumed-clause-errors : goal.returns-in_err-assumed-clause-errors
@@ -46,13 +43,11 @@ returns-in_err-answer-in-None-clause-begun g c =
     let there = c.in_ok-bytes.ensures.bytes in
     let named = subst (λ (f : Option NamingFault). IsNamed asked.search image f) is c.in_ok-bytes.ensures.fault in
     let ranges = ap (λ v. v.items) c.with_end-hunt.ensures.ranges ∙ rw c.deref.ensures.value at c.in_ok-hunt.ensures.ranges in
-    let old = g.O.Sink.took c.args.out.now in
-    let new = g.O.Sink.took c.find_fences-answer.new.out in
-    on_err c.from_residual-in_err-answer-in-None.result _ (⊎_elim (λ same. inl same) (λ b. inr (
+    on_err c.from_residual-in_err-answer-in-None.result _ (⊎_elim (λ same. inl same) (λ t. inr (
       record {
         settings = record { hunt = s; steps = asked.steps; assumed = c.in_ok-assumed.assumed; accepted = c.in_ok-accepted.accepted; keeps = c.is_some.result };
-        table = b.answer.table;
-        executions = b.answer.executions.items;
+        table = t.0;
+        executions = t.1;
         set = record {
           numbers = numbers;
           ranges = ranges_so asked.search image bytes s there named ranges;
@@ -62,11 +57,12 @@ returns-in_err-answer-in-None-clause-begun g c =
           is_accepted = c.in_ok-accepted.ensures.found;
           keeps = c.is_some.ensures;
         };
-        searched = rw (c.as_slice-image.ensures.value, c.as_slice-input.ensures.value) at b.is_text.table;
-        told = rw (c.as_slice-image.ensures.value, c.as_slice-input.ensures.value) at b.is_text.told;
+        searched = rw (c.as_slice-image.ensures.value, c.as_slice-input.ensures.value) at t.2;
+        told = rw (c.as_slice-image.ensures.value, c.as_slice-input.ensures.value) at t.3;
+        found = rw (c.as_slice-image.ensures.value, c.as_slice-input.ensures.value) at t.4;
       },
-      subst (λ (t : List ℕ). BeganText old new t) b.is_text.is_text b.began,
-    )) (begun _ c.in_err-answer-in-None.ensures.writes))
+      t.5,
+    )) c.in_err-answer-in-None.ensures.begun)
 
 pub returns-in_err-answer-in-None-clause-errors : goal.returns-in_err-answer-in-None-clause-errors
 returns-in_err-answer-in-None-clause-errors g c =
@@ -86,8 +82,7 @@ returns-in_err-answer-in-None-clause-errors g c =
       settings = s;
       numbers = numbers;
       refused = told_so asked.search true (hunt_fault s) s image _ e good c.in_err-answer-in-None.ensures.settings
-          (λ none. weak_refusal true s image _ _ e refl (λ more. inl more) (rw c.as_slice-image.ensures.value at
-          (why_cut (option_map Hunt (hunt_fault s)) _ _ c.in_err-answer-in-None.ensures.writes (inl refl) (ap (option_map Hunt) none))))
+          (λ none. refusal_so s image _ _ e (λ more. inl more) (rw c.as_slice-image.ensures.value at (c.in_err-answer-in-None.ensures.errors none)))
           (rw c.as_slice-image.ensures.value at c.in_err-answer-in-None.ensures.image);
     })))
 
@@ -102,8 +97,7 @@ returns-clause-searches g c =
     let there = c.in_ok-bytes.ensures.bytes in
     let named = subst (λ (f : Option NamingFault). IsNamed asked.search image f) is c.in_ok-bytes.ensures.fault in
     let ranges = ap (λ v. v.items) c.with_end-hunt.ensures.ranges ∙ rw c.deref.ensures.value at c.in_ok-hunt.ensures.ranges in
-    let old = g.O.Sink.took c.args.out.now in
-    let h = c.in_ok-answer-in-None.ensures.writes.written in
+    let h = c.in_ok-answer-in-None.ensures.finds in
     let f = c.in_ok-answer-in-None.field-0 in (
       record {
         settings = record { hunt = s; steps = asked.steps; assumed = c.in_ok-assumed.assumed; accepted = c.in_ok-accepted.accepted; keeps = c.is_some.result };
@@ -118,10 +112,11 @@ returns-clause-searches g c =
           is_accepted = c.in_ok-accepted.ensures.found;
           keeps = c.is_some.ensures;
         };
-        searched = rw (c.as_slice-image.ensures.value, c.as_slice-input.ensures.value) at h.is_text.table;
-        told = rw (c.as_slice-image.ensures.value, c.as_slice-input.ensures.value) at h.is_text.told;
+        searched = rw (c.as_slice-image.ensures.value, c.as_slice-input.ensures.value) at h.0;
+        told = rw (c.as_slice-image.ensures.value, c.as_slice-input.ensures.value) at h.1;
+        found = rw (c.as_slice-image.ensures.value, c.as_slice-input.ensures.value) at h.2;
       },
-      h.bytes ∙ ap (λ (t : List ℕ). old ++ t) h.is_text.is_text,
+      h.3,
       refl,
       refl,
     )

@@ -1,0 +1,73 @@
+ghost use denote.Param.Send.{IsSync};
+ghost use Rattle.std.specs.Prelude.{◌≡◌, ◌⊎◌, ◌<◌, ◌++◌, ℕ, Err, IfErr, IfOk, List, None, OnErr, Some, false, true};
+ghost use Rattle.host_io.specs.Taken.{BeganText};
+ghost use Rattle.host_io.specs.declared.load_error.LoadError.{LoadError as ImageCause};
+ghost use Rattle.host_io.specs.declared.error.RunError.TheVariants as refusals;
+ghost use Rattle.hunt_table.specs.Text.{table_text, with_count};
+ghost use Rattle.hunter.specs.Hunts.{IsImageCause, has_bad_range, hunt_fault};
+ghost use Rattle.hunter.specs.declared.error.HuntError.{HuntError as Refusal};
+ghost use Rattle.hunter.specs.declared.error.HuntError.TheVariants as hunting;
+ghost use Rattle.hunter.specs.declared.settings.HuntSettings.{HuntSettings as AskedFor};
+ghost use Rattle.plan_hunt.specs.declared.row.Row.{Row as TableRow};
+ghost use Rattle.program_files.specs.Failures.{IsUnprinted};
+ghost use Rattle.weak_hunter.specs.Refusals.{weak_hunt_number};
+ghost use Rattle.weak_hunter.specs.WeakHunts.{IsWeakReason, IsWeaklyHunted};
+ghost use Rattle.weak_hunter.specs.declared.error.WeakHuntError.TheVariants.{Hunt};
+
+use host_io::Sink;
+use hunter::HuntSettings;
+use plan_hunt::Tally;
+use std::alloc::Global;
+use std::sync::Wait;
+use std::thread::Threads;
+use weak_hunter::WeakHuntError;
+
+/// Who makes weak hunts. No definition says what so many steps of an execution lead to: so that is a relation, which a command can only
+/// get by a call with these steps.
+pub trait WeakHunts {
+    /// The rows are the table that a hunt by these settings makes of an image and an input, in executions of so many steps, where it is over
+    /// after so many of them.
+    ghost hunts: { AskedFor → List ℕ → List ℕ → ℕ → ℕ → List TableRow → Type 0 };
+
+    /// Hunts, writes the table of the endings, and answers it.
+    ///
+    /// # Errors
+    ///
+    /// As `hunt_weakly` of weak_hunter.
+    fn hunt_weakly<S: Sink, R: Threads + Wait + Sync>(
+        &self,
+        rt: &R,
+        alloc: Global,
+        image: &[u8],
+        input: &[u8],
+        settings: &HuntSettings,
+        steps: u32,
+        out: &mut S,
+    ) -> Result<Tally, WeakHuntError>
+        requires sync { IsSync R.row }
+        requires weak { settings.now.header.is_weak ≡ true }
+        ensures hunts { IfOk result (λ t.
+            IsWeaklyHunted settings.now image.now input.now t.done t.rows.items ×
+            hunts settings.now image.now input.now steps t.done t.rows.items ×
+            (S.took out.new ≡ S.took out.old
+            ++ table_text (with_count settings.now.header t.done) t.rows.items)) }
+        ensures begun { OnErr result ((S.took out.new ≡ S.took out.old) ⊎
+            ((n : ℕ) × (rows : List TableRow) ×
+            IsWeaklyHunted settings.now image.now input.now n rows ×
+            hunts settings.now image.now input.now steps n rows ×
+            BeganText (S.took out.old) (S.took out.new)
+            (table_text (with_count settings.now.header n) rows))) }
+        ensures unprinted { IfErr result (λ e.
+            IsUnprinted (weak_hunt_number e) (S.took out.old) (S.took out.new)) }
+        ensures settings { (e : Refusal) → hunt_fault settings.now ≡ Some e →
+            result ≡ Err (Hunt e) }
+        ensures errors { hunt_fault settings.now ≡ None → IfErr result (λ e.
+            IsWeakReason settings.now image.now e ⊎
+            ((e ≡ Hunt (hunting.Run refusals.SinkFailed)) ×
+            (S.failures out.old < S.failures out.new))) }
+        ensures image { (cause : ImageCause) → hunt_fault settings.now ≡ None →
+            IsImageCause settings.now image.now cause →
+            (result ≡ Err (Hunt (hunting.Run (refusals.Image cause)))) ⊎
+            (result ≡ Err (Hunt (hunting.Run refusals.OutOfMemory))) }
+        ensures ranges { IfOk result (λ _. has_bad_range settings.now ≡ false) };
+}
