@@ -1,10 +1,11 @@
-//! The places of a hart's runs, each beside those at the same instruction.
+//! The places of a hart's runs, each beside those with the same mark.
 ghost use Rattle.std.specs.Prelude.{◌≡◌, List, [], IsTrue, OnOk};
 ghost use Rattle.all_endings.specs.StoreLists.{Stored};
 ghost use Rattle.private_bytes.specs.PrivateWalks.{IsCoveredApart};
 ghost use Rattle.run_places.specs.Spots.{Grows, spot_of, spots_of};
 
 use crate::ahead::stands_for;
+use crate::marking::mark_of;
 use crate::place::{Place, is_itself};
 use pages::OutOfMemory;
 use std::alloc::Global;
@@ -15,8 +16,8 @@ use std::collections::HashMap;
 pub(crate) struct Places {
     /// In the order in which they were come to.
     pub(crate) all: Vec<Place>,
-    /// Of each instruction's address the latest of the places there, and of each place the one there before it. No more hangs on them than
-    /// which places are looked at.
+    /// Of each mark the latest of the places that have it, and of each place the one before it with the same mark. No more hangs on them
+    /// than which places are looked at.
     latest: HashMap<u64, usize>,
     before: Vec<Option<usize>>,
 }
@@ -43,24 +44,24 @@ impl Places {
         ensures covered { OnOk result ((m : List Stored) →
             IsCoveredApart m (spots_of self.new.all.items) (spot_of place)) }
     {
-        if self.covers(&place) {
+        let mark = mark_of(&place);
+        if self.covers(&place, mark) {
             return Ok(());
         }
         let index = self.all.len();
-        let pc = place.state.pc;
-        let before = self.latest.insert(pc, index)?;
+        let before = self.latest.insert(mark, index)?;
         self.before.push(before)?;
         is_itself(&place);
         self.all.push(place)?;
         Ok(())
     }
 
-    /// Whether one that is there stands for a place.
-    fn covers(&self, place: &Place) -> bool
+    /// Whether one that is there, with the same mark, stands for a place.
+    fn covers(&self, place: &Place, mark: u64) -> bool
         ensures { IsTrue result → (m : List Stored) →
             IsCoveredApart m (spots_of self.now.all.items) (spot_of place.now) }
     {
-        let mut at = self.latest.get(&place.state.pc).copied();
+        let mut at = self.latest.get(&mark).copied();
         for _ in 0..self.all.len() {
             let index = match at {
                 Some(index) => index,

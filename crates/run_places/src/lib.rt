@@ -7,6 +7,7 @@ mod bounds;
 mod constants;
 mod covering;
 mod following;
+mod marking;
 mod owing;
 mod place;
 mod reaching;
