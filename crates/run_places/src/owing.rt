@@ -1,14 +1,13 @@
 //! The stores of the list that a hart still owes.
-ghost use Rattle.std.specs.Prelude.{◌≡◌, ◌<◌, ℕ, IsTrue, true};
-ghost use Rattle.all_endings.specs.StoreLists.{has_byte};
+ghost use Rattle.std.specs.Prelude.{IsTrue};
 ghost use Rattle.all_endings.specs.Walking.{IsPaid};
-ghost use Rattle.hart_states.specs.States.{listed, state_of, stored_of};
+ghost use Rattle.hart_states.specs.States.{listed};
 ghost use Rattle.private_bytes.specs.PrivateWalks.{IsLost};
 ghost use Rattle.run_places.specs.Spots.{place_of};
 
 use crate::place::{Place, is_paid};
-use hart_states::{ListedStore, RunState};
-use run_bounds::byte_known;
+use hart_states::ListedStore;
+use run_bounds::{TouchedByte, byte_known};
 
 /// Whether a hart did all its stores of the list.
 pub(crate) fn owes_nothing(hart: u8, list: &[ListedStore], place: &Place) -> bool
@@ -22,14 +21,15 @@ pub(crate) fn owes_nothing(hart: u8, list: &[ListedStore], place: &Place) -> boo
     true
 }
 
-/// Whether a hart owes a store of the list that it can't do any more.
-pub(crate) fn is_lost(hart: u8, list: &[ListedStore], place: &Place) -> bool
+/// Whether a hart owes a store of the list that it can't do any more, behind a move from a place that wasn't lost: then the move was on one of
+/// the store's bytes.
+pub(crate) fn is_lost(hart: u8, list: &[ListedStore], before: &Place, place: &Place) -> bool
     ensures { IsTrue result → IsLost hart (listed list.now) (place_of place.now) }
 {
-    for store in 0..list.len() {
-        if list[store].hart == hart
-            && !is_paid(&place.paid, store)
-            && is_passed(&place.state, &list[store], store)
+    for index in 0..place.state.bytes.len() {
+        let byte = place.state.bytes[index];
+        if is_later(&before.state.bytes, index, byte.touched)
+            && is_past_due(hart, list, place, byte.address)
         {
             return true;
         }
@@ -37,14 +37,25 @@ pub(crate) fn is_lost(hart: u8, list: &[ListedStore], place: &Place) -> bool
     false
 }
 
-/// Whether an operation on one of a store's bytes stands behind a place of the list.
-fn is_passed(state: &RunState, store: &ListedStore, place: usize) -> bool
-    ensures { IsTrue result → (x : ℕ) × (has_byte (stored_of store.now) x ≡ true) ×
-        (place < (state_of state.now).touched x) }
+/// Whether an operation on the byte that is kept at an index stands behind those on it before.
+fn is_later(before: &[TouchedByte], index: usize, touched: usize) -> bool {
+    match before.get(index) {
+        Some(byte) => byte.touched < touched,
+        None => true,
+    }
+}
+
+/// Whether a hart owes a store to a byte, and an operation on that stands behind the store's place in the list.
+fn is_past_due(hart: u8, list: &[ListedStore], place: &Place, address: u64) -> bool
+    ensures { IsTrue result → IsLost hart (listed list.now) (place_of place.now) }
 {
-    for index in 0..state.bytes.len() {
-        let address = state.bytes[index].address;
-        if store.writes(address) && byte_known(&state.bytes, address).touched > place {
+    let touched = byte_known(&place.state.bytes, address).touched;
+    for store in 0..list.len() {
+        if store < touched
+            && list[store].hart == hart
+            && list[store].writes(address)
+            && !is_paid(&place.paid, store)
+        {
             return true;
         }
     }

@@ -76,7 +76,7 @@ fn add_behind(
     let alloc = *behind.allocator();
     let later = is_later(against.list, &successor);
     let reached = place_behind(alloc, place, successor, constant)?;
-    if is_lost(against.hart, against.list, &reached) {
+    if is_lost(against.hart, against.list, place, &reached) {
         return Ok(());
     }
     add_chosen(behind, &reached, only_if(later, chosen))?;
