@@ -1,5 +1,5 @@
 //! States and places that stand for others.
-ghost use Rattle.std.specs.Prelude.{◌≡◌, ◌<◌, ℕ, true, List, IsTrue, length};
+ghost use Rattle.std.specs.Prelude.{◌≡◌, ◌≤◌, ◌<◌, ℕ, true, List, IsTrue, length};
 ghost use Rattle.all_endings.specs.StoreLists.{Stored};
 ghost use Rattle.hart_states.specs.States.{state_of};
 ghost use Rattle.private_bytes.specs.Ahead.{IsAhead, OutputTells, Tells, TellsAll};
@@ -47,7 +47,18 @@ fn is_ahead(a: &RunState, b: &RunState) -> bool
         && kinds_at_most(&a.kinds, &b.kinds)
         && carried_at_most(&a.carried, &b.carried)
         && bytes_ahead(&a.bytes, &b.bytes)
-        && all_at_most(&b.sources, &a.sources)
+        && sources_ahead(a, b)
+}
+
+/// Whether bytes that are reserved are from no earlier stores. Where none are, nothing hangs on the sources (atomicity).
+fn sources_ahead(a: &RunState, b: &RunState) -> bool
+    ensures { IsTrue result → a.now.held ≡ b.now.held →
+        (x : ℕ) → (state_of b.now).sources x ≤ (state_of a.now).sources x }
+{
+    match b.held {
+        Some(_) => all_at_most(&b.sources, &a.sources),
+        None => true,
+    }
 }
 
 /// Whether all registers that are known are the same in others.
