@@ -26,9 +26,12 @@ pub(crate) fn owes_nothing(hart: u8, list: &[ListedStore], place: &Place) -> boo
 pub(crate) fn is_lost(hart: u8, list: &[ListedStore], before: &Place, place: &Place) -> bool
     ensures { IsTrue result → IsLost hart (listed list.now) (place_of place.now) }
 {
+    if owes_nothing(hart, list, place) {
+        return false;
+    }
     for index in 0..place.state.bytes.len() {
         let byte = place.state.bytes[index];
-        if is_later(&before.state.bytes, index, byte.touched)
+        if is_raised(&before.state.bytes, index, byte.touched)
             && is_past_due(hart, list, place, byte.address)
         {
             return true;
@@ -37,8 +40,8 @@ pub(crate) fn is_lost(hart: u8, list: &[ListedStore], before: &Place, place: &Pl
     false
 }
 
-/// Whether an operation on the byte that is kept at an index stands behind those on it before.
-fn is_later(before: &[TouchedByte], index: usize, touched: usize) -> bool {
+/// Whether the time behind the operations on the byte that is kept at an index is later than it was before.
+fn is_raised(before: &[TouchedByte], index: usize, touched: usize) -> bool {
     match before.get(index) {
         Some(byte) => byte.touched < touched,
         None => true,
