@@ -19,7 +19,7 @@ use guest_rounds::opening_harts;
 use pages::OutOfMemory;
 
 /// How many places of harts' runs the checker looks at for each list of stores that it may look through.
-const PLACES: usize = 10;
+const PLACES: usize = 15;
 
 /// How far the checker looks.
 #[derive(Clone, Copy)]
