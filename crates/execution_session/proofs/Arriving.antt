@@ -1,20 +1,10 @@
 -- What a debugger is answered: facts by cases of its request.
-use Rattle.std.proofs.Common.{◌≡◌, ℕ, List, [], ◌++◌, Option, None, Result, Ok, Err, OnOk, refl, subst, sym}
-use Rattle.gdb_packets.specs.Writing.{packet_text}
+use Rattle.std.proofs.Common.{◌≡◌, ℕ, [], Option, None, refl}
 use Rattle.gdb_packets.specs.declared.request.Request.{Request}
 use Rattle.gdb_packets.specs.declared.request.Request.TheVariants as requests
 use Rattle.execution_session.specs.declared.session.Standing.{Standing}
-use Rattle.execution_session.specs.Answers.{Answered, answer_to, fixed_text, moment_text, reply_at, says}
+use Rattle.execution_session.specs.Answers.{answer_to, fixed_text, moment_text, reply_at, says}
 use Rattle.execution_session.specs.Sessions.{Looked, State}
-
-pub both : {T E P Q R : Type 0} (r : Result T E) → (P → Q → R) → OnOk r P → OnOk r Q → OnOk r R
-both (Ok x) f p q = f p q
-both (Err e) f p q = p
-
--- the answer to a request is that to the one which it is
-pub answered_with : (r : Looked) (s : State) (request q : Request) (took took_then : List ℕ) (t : State) → request ≡ q → t ≡ (answer_to r s q).state →
-    took_then ≡ took ++ packet_text (answer_to r s q).text → Answered r s request took took_then t
-answered_with r s request q took took_then t is state wrote = subst (λ (x : Request). Answered r s x took took_then t) (sym is) (wrote, state)
 
 -- a request that changes nothing
 pub nothing_changes : (r : Looked) (s : State) (request : Request) → ((n : Option ℕ) → request ≡ requests.SelectGeneral n → ⊥) → ((n : Option ℕ) → request ≡ requests.SelectMoving n → ⊥) → ((a : ℕ) → request ≡ requests.AddStop a → ⊥) → ((a : ℕ) → request ≡ requests.RemoveStop a → ⊥) → ((a : ℕ) → request ≡ requests.AddHardwareStop a → ⊥) → ((a : ℕ) → request ≡ requests.RemoveHardwareStop a → ⊥) → (request ≡ requests.Continue → ⊥) → ((n : ℕ) → request ≡ requests.Step n → ⊥) → ((n : ℕ) (a : ℕ) (b : ℕ) → request ≡ requests.StepIn n a b → ⊥) → ((n : ℕ) → request ≡ requests.StepAlone n → ⊥) → (request ≡ requests.StepBack → ⊥) → (request ≡ requests.ContinueBack → ⊥) →

@@ -1,4 +1,3 @@
 pub mod Arriving
-pub mod Going
 pub mod Texts
 mod OpenedAs

@@ -1,5 +1,5 @@
 -- What a debugger is answered about an execution, and what its session is then.
-use Rattle.std.specs.Prelude.{◌≡◌, ℕ, ◌+◌, ◌-◌, ◌==◌, Bool, not, min, nat_le, false, if◌then◌else◌, List, [], ◌∷◌, ◌++◌, codes, filter, slice_get, slice_set, Option, Some, None}
+use Rattle.std.specs.Prelude.{◌≡◌, ℕ, ◌+◌, ◌-◌, ◌==◌, Bool, not, min, nat_le, false, if◌then◌else◌, List, [], ◌∷◌, ◌++◌, codes, filter, slice_get, slice_set, is_some, Option, Some, None}
 use Rattle.hex.specs.Hex.{encode_lower}
 use Rattle.hart_step.specs.declared.hart.Hart.{Hart}
 use Rattle.execution_moments.specs.Shown.{hart_at, view_at}
@@ -12,9 +12,9 @@ use Rattle.gdb_replies.specs.Description.{target_text}
 use Rattle.gdb_replies.specs.Replies.{features_text, part_of, stop_text}
 use Rattle.gdb_replies.specs.Words.{numbers_of, register_text, registers_text, thread_text, threads_text}
 use Rattle.gdb_replies.specs.declared.registers.Registers.{Registers}
-use Rattle.gdb_talk.specs.Told.{stop_reply_of}
+use Rattle.gdb_talk.specs.Told.{done_if, hart_of_thread, stop_reply_of}
 use Rattle.execution_session.specs.declared.session.Standing.{Standing}
-use Rattle.execution_session.specs.Sessions.{Looked, State, hart_of_thread, position_at}
+use Rattle.execution_session.specs.Sessions.{Looked, State, position_at}
 use Rattle.execution_session.specs.Moving.{goes_back, goes_on, steps, steps_alone, steps_back}
 use Rattle.execution_session.specs.Threads.{thread_list}
 
@@ -25,10 +25,6 @@ missing = codes "E01"
 
 abbrev pub done : List ℕ
 done = codes "OK"
-
-abbrev pub done_or_missing : Option ℕ → List ℕ
-done_or_missing None = missing
-done_or_missing (Some h) = done
 
 -- where the execution stands, and why
 abbrev pub stop_answer : Standing → Option Hart → List ℕ
@@ -87,7 +83,7 @@ fixed_text r t request = None
 abbrev pub moment_text : Looked → Standing → Request → List ℕ
 moment_text r t requests.WhyStopped = stands_text r t
 moment_text r t (requests.ThreadList offset count) = part_of (thread_list r t.time) offset count
-moment_text r t (requests.IsAlive thread) = done_or_missing (hart_of_thread r.harts thread)
+moment_text r t (requests.IsAlive thread) = done_if (is_some (hart_of_thread r.harts thread))
 moment_text r t requests.ReadRegisters = registers_at r t None
 moment_text r t (requests.ReadRegister number) = registers_at r t (Some number)
 moment_text r t (requests.ReadMemory address count) = memory_at r t address count
@@ -162,12 +158,9 @@ answer_to r s requests.StepBack = resumed r s requests.StepBack
 answer_to r s requests.ContinueBack = resumed r s requests.ContinueBack
 answer_to r s request = says s (reply_at r s.standing request)
 
--- it is written as one packet
-abbrev pub Wrote : List ℕ → List ℕ → State → Answer → Type 0
-Wrote took took_then t a = (took_then ≡ took ++ packet_text a.text) × (t ≡ a.state)
-
-abbrev pub Answered : Looked → State → Request → List ℕ → List ℕ → State → Type 0
-Answered r s request took took_then t = Wrote took took_then t (answer_to r s request)
+-- it is one packet
+abbrev pub IsAnswer : Answer → List ℕ → State → Type 0
+IsAnswer a written t = (written ≡ packet_text a.text) × (t ≡ a.state)
 
 abbrev pub Answers : Looked → State → Request → List ℕ → State → Type 0
-Answers r s request text t = (text ≡ (answer_to r s request).text) × (t ≡ (answer_to r s request).state)
+Answers r s request written t = IsAnswer (answer_to r s request) written t

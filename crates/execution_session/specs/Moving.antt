@@ -5,8 +5,9 @@ use Rattle.execution_moments.specs.Shown.{is_of, moment_at, next_of}
 use Rattle.execution_moments.specs.Told.{next_by, previous_by}
 use Rattle.gdb_replies.specs.declared.stop_reply.Reason.{Reason}
 use Rattle.gdb_replies.specs.declared.stop_reply.Reason.TheVariants.{Begin, End, Step}
+use Rattle.gdb_talk.specs.Told.{reason_of}
 use Rattle.execution_session.specs.declared.session.Standing.{Standing}
-use Rattle.execution_session.specs.Sessions.{Looked, State, has_stopped, moved, stays, why}
+use Rattle.execution_session.specs.Sessions.{Looked, State, has_stopped, moved, stays}
 
 abbrev pub end_of : Looked → ℕ
 end_of r = length r.course.sequence.items
@@ -25,7 +26,7 @@ ahead t = if t.passed then t.time + 1 else t.time
 -- it stands at what is told at a time; elsewhere where nothing was found
 abbrev pub told_by : State → ℕ → Option HartMoment → Standing
 told_by s time None = s.standing
-told_by s time (Some m) = moved s.standing time true (why s.software s.hardware m.hart) m.number
+told_by s time (Some m) = moved s.standing time true (reason_of s.software s.hardware m.hart) m.number
 
 abbrev pub told_at : Looked → State → ℕ → Standing
 told_at r s time = told_by s time (moment_at r.course time)
@@ -51,7 +52,7 @@ is_step reason = false
 
 abbrev pub begins_by : State → ℕ → ℕ → Option HartMoment → Bool
 begins_by s h time None = false
-begins_by s h time (Some m) = m.number == h && (is_some m.index && (nat_le time s.standing.time || is_step (why s.software s.hardware m.hart)))
+begins_by s h time (Some m) = m.number == h && (is_some m.index && (nat_le time s.standing.time || is_step (reason_of s.software s.hardware m.hart)))
 
 abbrev pub begins_step : Looked → State → ℕ → ℕ → Bool
 begins_step r s h time = begins_by s h time (moment_at r.course time)
@@ -78,7 +79,7 @@ steps_alone r s h = if has_stopped r s.standing.time h then stays s.standing End
 -- a step back, with the others or alone
 abbrev pub back_alone_by : Standing → ℕ → ℕ → Option HartMoment → Standing
 back_alone_by t h time None = t
-back_alone_by t h time (Some m) = moved t time true (why [] [] m.hart) h
+back_alone_by t h time (Some m) = moved t time true (reason_of [] [] m.hart) h
 
 abbrev pub back_alone_to : Looked → Standing → ℕ → Option ℕ → Standing
 back_alone_to r t h None = stays t Begin h

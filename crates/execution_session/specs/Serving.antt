@@ -1,12 +1,10 @@
 -- A debugger is served: what it says, and what is written for it.
-use Rattle.std.specs.Prelude.{◌≡◌, ◌⊎◌, ℕ, Bool, true, false, List, [], ◌∷◌, ◌++◌, codes, Option, Some, None}
+use Rattle.std.specs.Prelude.{◌≡◌, ◌⊎◌, ℕ, Bool, true, false, List, [], ◌∷◌, ◌++◌, Option, Some, None}
 use Rattle.gdb_packets.specs.Stream.{Told, Accepted, Again, Interrupt, Packet, Spoilt, next_of}
-use Rattle.gdb_packets.specs.Writing.{answer_to, packet_text}
 use Rattle.gdb_packets.specs.declared.request.Request.{Request}
-use Rattle.gdb_packets.specs.declared.request.Request.TheVariants as requests
-use Rattle.gdb_talk.specs.Asking.{asked_by, ends}
+use Rattle.gdb_talk.specs.Asking.{UnlessKill, asked_by, ends}
 use Rattle.gdb_talk.specs.Saying.{refused_text}
-use Rattle.gdb_talk.specs.Serving.{Served as ServedBy}
+use Rattle.gdb_talk.specs.Serving.{Answered, IsLost, Served as ServedBy}
 use Rattle.execution_session.specs.Answers.{Answers}
 use Rattle.execution_session.specs.Sessions.{Looked, State, opening_standing, state_of}
 use Rattle.execution_session.specs.declared.talk.Talk.{Talk}
@@ -25,37 +23,22 @@ begun = record { state = record { standing = opening_standing; software = []; ha
 
 -- ---- what is written for it
 
--- one packet answers a request; or it says that the request found no memory, and the session stays as it was
-pub record IsAnswered (r : Looked) (s : State) (request : Request) (written : List ℕ) (t : State) : Type 0 where
-  pub text : List ℕ
-  pub answers : Answers r s request text t
-  pub is : written ≡ packet_text text
-
+-- a request is answered; or it is said that it found no memory, and the session stays as it was
 abbrev pub Replies : Looked → State → Request → List ℕ → State → Type 0
-Replies r s request written t = IsAnswered r s request written t ⊎ ((written ≡ refused_text) × (t ≡ s))
+Replies r s request said t = Answers r s request said t ⊎ ((said ≡ refused_text) × (t ≡ s))
 
 -- an execution that is to end is not answered
 abbrev pub RepliesTo : Looked → State → Request → List ℕ → State → Type 0
-RepliesTo r s requests.Kill written t = (written ≡ []) × (t ≡ s)
-RepliesTo r s request written t = Replies r s request written t
+RepliesTo r s request said t = UnlessKill request ((said ≡ []) × (t ≡ s)) (Replies r s request said t)
 
--- the acknowledgement, and the reply to what is asked for
-pub record HearsRequest (r : Looked) (s : Talking) (x : Told) (request : Request) (written : List ℕ) (t : Talking) : Type 0 where
-  pub reply : List ℕ
-  pub replies : RepliesTo r s.state request reply t.state
-  pub last : t.last ≡ Some request
-  pub is : written ≡ answer_to x ++ reply
+-- there is a reply to what is asked for
+abbrev pub HearsBy : Looked → Talking → Option Request → List ℕ → Talking → Type 0
+HearsBy r s None said t = (said ≡ []) × (t ≡ s)
+HearsBy r s (Some request) said t = RepliesTo r s.state request said t.state × (t.last ≡ Some request)
 
-abbrev pub HearsBy : Looked → Talking → Told → Option Request → List ℕ → Talking → Type 0
-HearsBy r s x None written t = (written ≡ answer_to x) × (t ≡ s)
-HearsBy r s x (Some request) written t = HearsRequest r s x request written t
-
--- something that found no memory itself is acknowledged, and answered so
-abbrev pub IsLost : Talking → List ℕ → Talking → Type 0
-IsLost s written t = (written ≡ 43 ∷ refused_text) × (t ≡ s)
-
+-- what is heard is acknowledged, and that is said; or it found no memory itself
 abbrev pub Hears : Looked → Talking → Told → List ℕ → Talking → Type 0
-Hears r s x written t = HearsBy r s x (asked_by x s.last) written t ⊎ IsLost s written t
+Hears r s x written t = Answered x written (λ said. HearsBy r s (asked_by x s.last) said t) ⊎ IsLost s written t
 
 -- ---- the whole
 

@@ -1,14 +1,13 @@
 -- A debugger's session with an execution.
-use Rattle.std.specs.Prelude.{ℕ, ◌-◌, ◌==◌, ◌||◌, nat_lt, Bool, true, if◌then◌else◌, List, is_some, Option, Some, None}
+use Rattle.std.specs.Prelude.{ℕ, Bool, true, List, Option, None}
 use Rattle.round_schedule.specs.declared.event.Event.{Event}
 use Rattle.hart_step.specs.declared.hart.Hart.{Hart}
 use Rattle.trace.specs.Traced.{opening_at}
 use Rattle.execution_moments.specs.declared.course.Course.{Course}
 use Rattle.execution_moments.specs.Shown.{hart_at, view_at}
-use Rattle.moments.specs.Stops.{is_one_of}
 use Rattle.gdb_replies.specs.declared.stop_reply.Reason.{Reason}
 use Rattle.gdb_replies.specs.declared.stop_reply.Reason.TheVariants as reasons
-use Rattle.gdb_talk.specs.Told.{reason_of}
+use Rattle.gdb_talk.specs.Told.{is_stopped}
 use Rattle.execution_session.specs.declared.past.Past.{Past}
 use Rattle.execution_session.specs.declared.session.Session.{Session}
 use Rattle.execution_session.specs.declared.session.Standing.{Standing}
@@ -52,15 +51,7 @@ moved s time passed reason hart = record { time = time; passed = passed; reason 
 abbrev pub stays : Standing → Reason → ℕ → Standing
 stays s reason hart = moved s s.time s.passed reason hart
 
--- hart i is that of thread i + 1
-abbrev pub hart_of_thread : ℕ → ℕ → Option ℕ
-hart_of_thread harts thread = if (thread == 0) || nat_lt harts thread then None else Some (thread - 1)
-
 -- ---- harts at a time
-
-abbrev pub is_stopped : Option Hart → Bool
-is_stopped None = true
-is_stopped (Some h) = is_some h.stop
 
 abbrev pub has_stopped : Looked → ℕ → ℕ → Bool
 has_stopped r time h = is_stopped (hart_at r.course time h)
@@ -68,11 +59,3 @@ has_stopped r time h = is_stopped (hart_at r.course time h)
 -- where its next memory operation stands in the order
 abbrev pub position_at : Looked → ℕ → ℕ → ℕ
 position_at r time h = (view_at r.course r.events r.order time h).position
-
--- why one stands at a hart, where software and hardware breakpoints are at these addresses
-abbrev pub or_hardware : Reason → Bool → Reason
-or_hardware reasons.Step true = reasons.HardwareBreakpoint
-or_hardware r b = r
-
-abbrev pub why : List ℕ → List ℕ → Hart → Reason
-why software hardware h = or_hardware (reason_of software h) (is_one_of hardware h.pc)

@@ -1,12 +1,10 @@
 //! What a debugger is answered, and where its session stands then.
 
-ghost use Rattle.std.specs.Prelude.{◌≡◌, ◌++◌, Err, IfOk, MatchOption, None, OnOk, Some, slice_get};
-ghost use Rattle.host_io.specs.declared.error.RunError.TheVariants as refusals;
+ghost use Rattle.std.specs.Prelude.{◌≡◌, IfOk, MatchOption, None, OnErr, Some};
 ghost use Rattle.gdb_packets.specs.Writing.{packet_text};
 ghost use Rattle.gdb_replies.specs.Replies.{part_of, payload_of};
-ghost use Rattle.gdb_replies.specs.Words.{numbers_of};
-ghost use Rattle.execution_session.specs.Answers.{Answered, Wrote, done_or_missing, fixed_text, memory_at, moment_text, registers_at, registers_of, reply_at, resumed, selects_general, selects_moving, stands_text, standing_after};
-ghost use Rattle.execution_session.specs.Sessions.{looked_at, state_of};
+ghost use Rattle.execution_session.specs.Answers.{Answers, IsAnswer, fixed_text, memory_at, moment_text, registers_at, registers_of, reply_at, resumed, selects_general, selects_moving, stands_text, standing_after};
+ghost use Rattle.execution_session.specs.Sessions.{Looked, looked_at, state_of};
 ghost use Rattle.execution_session.specs.Threads.{thread_list};
 
 use crate::moving::{go_back, go_on, step, step_alone, step_back};
@@ -14,68 +12,96 @@ use crate::past::Past;
 use crate::session::{Session, Standing};
 use crate::threads::thread_list;
 use gdb_packets::Request;
-use gdb_replies::{Registers, Reply, Window, target_description, write_reply};
-use gdb_talk::{add_stop, remove_stop, stop_reply_of};
+use gdb_replies::{Registers, Reply, Window, reply_text, target_description};
+use gdb_talk::{done_if, register_of, stop_reply_of, with_one, without_one};
 use hart_step::Hart;
-use host_io::{RunError, Sink};
+use pages::OutOfMemory;
 use std::alloc::Global;
 
-/// Answers a request about an execution.
+/// The answer to a request about an execution.
 ///
 /// # Errors
 ///
-/// `OutOfMemory`: nothing is written then, and the session stays as it is. `SinkFailed`: a beginning of the reply is written.
-pub fn answer<K: Sink>(
+/// `OutOfMemory`: the session stays as it is.
+pub fn answer(
     alloc: Global,
     past: &Past,
     session: &mut Session,
     request: Request,
-    out: &mut K,
-) -> Result<(), RunError>
-    ensures answers { OnOk result (Answered (looked_at past.now) (state_of session.old) request
-        (K.took out.old) (K.took out.new) (state_of session.new)) }
-    ensures refused { result ≡ Err refusals.OutOfMemory → (K.took out.new ≡ K.took out.old) ×
-        (state_of session.new ≡ state_of session.old) }
+) -> Result<Vec<u8>, OutOfMemory>
+    ensures answers { IfOk result (λ text. Answers (looked_at past.now) (state_of session.old)
+        request text.items (state_of session.new)) }
+    ensures refused { OnErr result (state_of session.new ≡ state_of session.old) }
 {
     match request {
-        Request::SelectGeneral(thread) => select_general(alloc, past, session, thread, out),
-        Request::SelectMoving(thread) => select_moving(alloc, past, session, thread, out),
-        Request::AddStop(address) => add_stop(alloc, &mut session.software, address, out),
-        Request::RemoveStop(address) => remove_stop(alloc, &mut session.software, address, out),
-        Request::AddHardwareStop(address) => add_stop(alloc, &mut session.hardware, address, out),
-        Request::RemoveHardwareStop(address) => {
-            remove_stop(alloc, &mut session.hardware, address, out)
-        }
+        Request::SelectGeneral(thread) => select_general(alloc, past, session, thread),
+        Request::SelectMoving(thread) => select_moving(alloc, past, session, thread),
+        Request::AddStop(_)
+        | Request::RemoveStop(_)
+        | Request::AddHardwareStop(_)
+        | Request::RemoveHardwareStop(_) => change_stops(alloc, session, request),
         Request::Continue
         | Request::Step(_)
         | Request::StepIn(_, _, _)
         | Request::StepAlone(_)
         | Request::StepBack
-        | Request::ContinueBack => resume(alloc, past, session, request, out),
-        _ => reply_to(alloc, past, session.standing, request, out),
+        | Request::ContinueBack => resume(alloc, past, session, request),
+        _ => reply_to(alloc, past, session.standing, request),
+    }
+}
+
+/// Adds or removes a breakpoint.
+fn change_stops(
+    alloc: Global,
+    session: &mut Session,
+    request: Request,
+) -> Result<Vec<u8>, OutOfMemory>
+    ensures answers { (r : Looked) → IfOk result (λ text.
+        Answers r (state_of session.old) request text.items (state_of session.new)) }
+    ensures refused { OnErr result (state_of session.new ≡ state_of session.old) }
+{
+    let done = reply_text(alloc, &Reply::Done)?;
+    match request {
+        Request::AddStop(address) => {
+            session.software = with_one(alloc, session.software.as_slice(), address)?;
+            Ok(done)
+        }
+        Request::RemoveStop(address) => {
+            session.software = without_one(alloc, session.software.as_slice(), address)?;
+            Ok(done)
+        }
+        Request::AddHardwareStop(address) => {
+            session.hardware = with_one(alloc, session.hardware.as_slice(), address)?;
+            Ok(done)
+        }
+        Request::RemoveHardwareStop(address) => {
+            session.hardware = without_one(alloc, session.hardware.as_slice(), address)?;
+            Ok(done)
+        }
+        // No other request changes them.
+        _ => Err(OutOfMemory),
     }
 }
 
 /// Resumes the execution, and says where it stands then.
-fn resume<K: Sink>(
+fn resume(
     alloc: Global,
     past: &Past,
     session: &mut Session,
     request: Request,
-    out: &mut K,
-) -> Result<(), RunError>
-    ensures resumes { OnOk result (Wrote (K.took out.old) (K.took out.new) (state_of session.new)
-        (resumed (looked_at past.now) (state_of session.old) request)) }
-    ensures refused { result ≡ Err refusals.OutOfMemory → (K.took out.new ≡ K.took out.old) ×
-        (state_of session.new ≡ state_of session.old) }
+) -> Result<Vec<u8>, OutOfMemory>
+    ensures resumes { IfOk result (λ text. IsAnswer
+        (resumed (looked_at past.now) (state_of session.old) request) text.items
+        (state_of session.new)) }
+    ensures refused { OnErr result (state_of session.new ≡ state_of session.old) }
 {
     match standing_after(alloc, past, session, request)? {
         Some(standing) => {
-            say_where(alloc, past, standing, out)?;
+            let text = say_where(alloc, past, standing)?;
             session.standing = standing;
-            Ok(())
+            Ok(text)
         }
-        None => write_reply(alloc, &Reply::Missing, out),
+        None => reply_text(alloc, &Reply::Missing),
     }
 }
 
@@ -85,7 +111,7 @@ fn standing_after(
     past: &Past,
     session: &Session,
     request: Request,
-) -> Result<Option<Standing>, RunError>
+) -> Result<Option<Standing>, OutOfMemory>
     ensures { IfOk result (λ x.
         x ≡ standing_after (looked_at past.now) (state_of session.now) request) }
 {
@@ -108,66 +134,52 @@ fn standing_after(
     Ok(Some(standing))
 }
 
-/// Says that it is done, or that there is no such hart.
-fn say_done<K: Sink>(alloc: Global, hart: Option<u8>, out: &mut K) -> Result<(), RunError>
-    ensures writes { OnOk result (K.took out.new ≡ K.took out.old
-        ++ packet_text (done_or_missing hart)) }
-    ensures memory { result ≡ Err refusals.OutOfMemory → K.took out.new ≡ K.took out.old }
-{
-    match hart {
-        Some(_) => write_reply(alloc, &Reply::Done, out),
-        None => write_reply(alloc, &Reply::Missing, out),
-    }
-}
-
 /// Registers and memory are asked of this thread from now on.
-fn select_general<K: Sink>(
+fn select_general(
     alloc: Global,
     past: &Past,
     session: &mut Session,
     thread: Option<u64>,
-    out: &mut K,
-) -> Result<(), RunError>
-    ensures selects { OnOk result (Wrote (K.took out.old) (K.took out.new) (state_of session.new)
-        (selects_general (looked_at past.now) (state_of session.old) thread)) }
-    ensures refused { result ≡ Err refusals.OutOfMemory → (K.took out.new ≡ K.took out.old) ×
-        (state_of session.new ≡ state_of session.old) }
+) -> Result<Vec<u8>, OutOfMemory>
+    ensures selects { IfOk result (λ text. IsAnswer
+        (selects_general (looked_at past.now) (state_of session.old) thread) text.items
+        (state_of session.new)) }
+    ensures refused { OnErr result (state_of session.new ≡ state_of session.old) }
 {
     let Some(thread) = thread else {
-        return write_reply(alloc, &Reply::Done, out);
+        return reply_text(alloc, &Reply::Done);
     };
     let hart = past.hart_of_thread(thread);
-    say_done(alloc, hart, out)?;
+    let text = reply_text(alloc, &done_if(hart.is_some()))?;
     if let Some(hart) = hart {
         session.standing.general = hart;
     }
-    Ok(())
+    Ok(text)
 }
 
 /// Steps back are those of this thread alone from now on, or of any.
-fn select_moving<K: Sink>(
+fn select_moving(
     alloc: Global,
     past: &Past,
     session: &mut Session,
     thread: Option<u64>,
-    out: &mut K,
-) -> Result<(), RunError>
-    ensures selects { OnOk result (Wrote (K.took out.old) (K.took out.new) (state_of session.new)
-        (selects_moving (looked_at past.now) (state_of session.old) thread)) }
-    ensures refused { result ≡ Err refusals.OutOfMemory → (K.took out.new ≡ K.took out.old) ×
-        (state_of session.new ≡ state_of session.old) }
+) -> Result<Vec<u8>, OutOfMemory>
+    ensures selects { IfOk result (λ text. IsAnswer
+        (selects_moving (looked_at past.now) (state_of session.old) thread) text.items
+        (state_of session.new)) }
+    ensures refused { OnErr result (state_of session.new ≡ state_of session.old) }
 {
     let Some(thread) = thread else {
-        write_reply(alloc, &Reply::Done, out)?;
+        let text = reply_text(alloc, &Reply::Done)?;
         session.standing.moving = None;
-        return Ok(());
+        return Ok(text);
     };
     let hart = past.hart_of_thread(thread);
-    say_done(alloc, hart, out)?;
+    let text = reply_text(alloc, &done_if(hart.is_some()))?;
     if let Some(hart) = hart {
         session.standing.moving = Some(hart);
     }
-    Ok(())
+    Ok(text)
 }
 
 /// The reply to a request that isn't about a time; none for another one.
@@ -194,62 +206,54 @@ fn fixed_reply(past: &Past, standing: Standing, request: Request) -> Option<Repl
 }
 
 /// Answers a request that changes nothing.
-fn reply_to<K: Sink>(
+fn reply_to(
     alloc: Global,
     past: &Past,
     standing: Standing,
     request: Request,
-    out: &mut K,
-) -> Result<(), RunError>
-    ensures writes { OnOk result (K.took out.new ≡ K.took out.old
-        ++ packet_text (reply_at (looked_at past.now) standing request)) }
-    ensures memory { result ≡ Err refusals.OutOfMemory → K.took out.new ≡ K.took out.old }
+) -> Result<Vec<u8>, OutOfMemory>
+    ensures { IfOk result (λ text. text.items
+        ≡ packet_text (reply_at (looked_at past.now) standing request)) }
 {
     match fixed_reply(past, standing, request) {
-        Some(reply) => write_reply(alloc, &reply, out),
-        None => reply_at(alloc, past, standing, request, out),
+        Some(reply) => reply_text(alloc, &reply),
+        None => reply_at(alloc, past, standing, request),
     }
 }
 
 /// Answers a request that is about the time.
-fn reply_at<K: Sink>(
+fn reply_at(
     alloc: Global,
     past: &Past,
     standing: Standing,
     request: Request,
-    out: &mut K,
-) -> Result<(), RunError>
-    ensures writes { OnOk result (K.took out.new ≡ K.took out.old
-        ++ packet_text (moment_text (looked_at past.now) standing request)) }
-    ensures memory { result ≡ Err refusals.OutOfMemory → K.took out.new ≡ K.took out.old }
+) -> Result<Vec<u8>, OutOfMemory>
+    ensures { IfOk result (λ text. text.items
+        ≡ packet_text (moment_text (looked_at past.now) standing request)) }
 {
     match request {
-        Request::WhyStopped => say_where(alloc, past, standing, out),
-        Request::ThreadList(offset, count) => {
-            say_threads(alloc, past, standing, offset, count, out)
+        Request::WhyStopped => say_where(alloc, past, standing),
+        Request::ThreadList(offset, count) => { say_threads(alloc, past, standing, offset, count) }
+        Request::IsAlive(thread) => {
+            reply_text(alloc, &done_if(past.hart_of_thread(thread).is_some()))
         }
-        Request::IsAlive(thread) => say_done(alloc, past.hart_of_thread(thread), out),
-        Request::ReadRegisters => say_registers(alloc, past, standing, None, out),
-        Request::ReadRegister(number) => say_registers(alloc, past, standing, Some(number), out),
-        Request::ReadMemory(address, count) => {
-            say_memory(alloc, past, standing, address, count, out)
-        }
-        _ => write_reply(alloc, &Reply::Unknown, out),
+        Request::ReadRegisters => say_registers(alloc, past, standing, None),
+        Request::ReadRegister(number) => say_registers(alloc, past, standing, Some(number)),
+        Request::ReadMemory(address, count) => { say_memory(alloc, past, standing, address, count) }
+        _ => reply_text(alloc, &Reply::Unknown),
     }
 }
 
 /// Says a part of the list of threads.
-fn say_threads<K: Sink>(
+fn say_threads(
     alloc: Global,
     past: &Past,
     standing: Standing,
     offset: u64,
     count: u64,
-    out: &mut K,
-) -> Result<(), RunError>
-    ensures writes { OnOk result (K.took out.new ≡ K.took out.old
-        ++ packet_text (part_of (thread_list (looked_at past.now) standing.time) offset count)) }
-    ensures memory { result ≡ Err refusals.OutOfMemory → K.took out.new ≡ K.took out.old }
+) -> Result<Vec<u8>, OutOfMemory>
+    ensures { IfOk result (λ text. text.items
+        ≡ packet_text (part_of (thread_list (looked_at past.now) standing.time) offset count)) }
 {
     let text = thread_list(alloc, past, standing.time)?;
     let part = Window {
@@ -257,26 +261,24 @@ fn say_threads<K: Sink>(
         offset,
         count,
     };
-    write_reply(alloc, &Reply::Part(part), out)
+    reply_text(alloc, &Reply::Part(part))
 }
 
 /// Says bytes of memory, as the hart that is asked of sees them.
-fn say_memory<K: Sink>(
+fn say_memory(
     alloc: Global,
     past: &Past,
     standing: Standing,
     address: u64,
     count: u64,
-    out: &mut K,
-) -> Result<(), RunError>
-    ensures writes { OnOk result (K.took out.new ≡ K.took out.old
-        ++ packet_text (memory_at (looked_at past.now) standing address count)) }
-    ensures memory { result ≡ Err refusals.OutOfMemory → K.took out.new ≡ K.took out.old }
+) -> Result<Vec<u8>, OutOfMemory>
+    ensures { IfOk result (λ text. text.items
+        ≡ packet_text (memory_at (looked_at past.now) standing address count)) }
 {
     let bytes = past.bytes_at(alloc, standing.time, standing.general, address, count)?;
     match bytes.as_slice() {
-        [] => write_reply(alloc, &Reply::Missing, out),
-        [_, ..] => write_reply(alloc, &Reply::Memory(bytes.as_slice()), out),
+        [] => reply_text(alloc, &Reply::Missing),
+        [_, ..] => reply_text(alloc, &Reply::Memory(bytes.as_slice())),
     }
 }
 
@@ -295,36 +297,18 @@ fn registers_of(hart: &Hart, position: usize) -> Registers
     }
 }
 
-/// A register by its number.
-fn register_of(registers: &Registers, number: u64) -> Option<u64>
-    ensures { result ≡ slice_get (numbers_of registers.now) number }
-{
-    if number < 32 {
-        return Some(registers.x[number as usize]);
-    }
-    match number {
-        32 => Some(registers.pc),
-        33 => Some(registers.round),
-        34 => Some(registers.place),
-        35 => Some(registers.phase),
-        _ => None,
-    }
-}
-
 /// Says all registers of the hart that is asked of, or one.
-fn say_registers<K: Sink>(
+fn say_registers(
     alloc: Global,
     past: &Past,
     standing: Standing,
     number: Option<u64>,
-    out: &mut K,
-) -> Result<(), RunError>
-    ensures writes { OnOk result (K.took out.new ≡ K.took out.old
-        ++ packet_text (registers_at (looked_at past.now) standing number)) }
-    ensures memory { result ≡ Err refusals.OutOfMemory → K.took out.new ≡ K.took out.old }
+) -> Result<Vec<u8>, OutOfMemory>
+    ensures { IfOk result (λ text. text.items
+        ≡ packet_text (registers_at (looked_at past.now) standing number)) }
 {
     let Some(hart) = past.course.hart_at(standing.time, standing.general) else {
-        return write_reply(alloc, &Reply::Missing, out);
+        return reply_text(alloc, &Reply::Missing);
     };
     let registers = registers_of(&hart, past.position_at(standing.time, standing.general));
     let reply = match number {
@@ -334,25 +318,19 @@ fn say_registers<K: Sink>(
             None => Reply::Missing,
         },
     };
-    write_reply(alloc, &reply, out)
+    reply_text(alloc, &reply)
 }
 
 /// Says where the execution stands, and why.
-fn say_where<K: Sink>(
-    alloc: Global,
-    past: &Past,
-    standing: Standing,
-    out: &mut K,
-) -> Result<(), RunError>
-    ensures writes { OnOk result (K.took out.new ≡ K.took out.old
-        ++ packet_text (stands_text (looked_at past.now) standing)) }
-    ensures memory { result ≡ Err refusals.OutOfMemory → K.took out.new ≡ K.took out.old }
+fn say_where(alloc: Global, past: &Past, standing: Standing) -> Result<Vec<u8>, OutOfMemory>
+    ensures { IfOk result (λ text. text.items
+        ≡ packet_text (stands_text (looked_at past.now) standing)) }
 {
     match past.course.hart_at(standing.time, standing.told) {
         Some(hart) => {
             let stop = stop_reply_of(standing.reason, u32::from(standing.told), &hart);
-            write_reply(alloc, &Reply::Stopped(stop), out)
+            reply_text(alloc, &Reply::Stopped(stop))
         }
-        None => write_reply(alloc, &Reply::Missing, out),
+        None => reply_text(alloc, &Reply::Missing),
     }
 }

@@ -3,13 +3,14 @@
 ghost use Rattle.std.specs.Prelude.{◌≡◌, IfOk};
 ghost use Rattle.execution_session.specs.Answers.{bytes_seen};
 ghost use Rattle.execution_session.specs.Moving.{end_of};
-ghost use Rattle.execution_session.specs.Sessions.{has_stopped, hart_of_thread, looked_at, position_at, state_of, why};
+ghost use Rattle.gdb_talk.specs.Told.{hart_of_thread, reason_of};
+ghost use Rattle.execution_session.specs.Sessions.{has_stopped, looked_at, position_at, state_of};
 
 use crate::past::Past;
 use crate::session::Session;
 use execution_views::bytes_at;
 use gdb_replies::Reason;
-use gdb_talk::reason_of;
+use gdb_talk::{hart_of_thread, is_stopped, reason_of};
 use hart_step::Hart;
 use pages::OutOfMemory;
 use std::alloc::Global;
@@ -29,21 +30,17 @@ impl Past {
     pub(crate) fn has_stopped(&self, time: usize, hart: u8) -> bool
         ensures { result ≡ has_stopped (looked_at self.now) time hart }
     {
-        match self.course.hart_at(time, hart) {
-            Some(hart) => hart.stop.is_some(),
-            None => true,
-        }
+        is_stopped(self.course.hart_at(time, hart))
     }
 
     /// The hart of a thread; none where there is no such hart.
     pub(crate) fn hart_of_thread(&self, thread: u64) -> Option<u8>
         ensures { result ≡ hart_of_thread self.now.harts thread }
     {
-        if thread == 0 || u64::from(self.harts) < thread {
-            return None;
+        match hart_of_thread(u32::from(self.harts), thread) {
+            Some(hart) => Some(hart as u8),
+            None => None,
         }
-        let hart = (thread - 1) as u8;
-        Some(hart)
     }
 
     /// Where a hart's next memory operation stands in the order, at a time.
@@ -89,21 +86,10 @@ impl Past {
     }
 }
 
-/// Why one stands at a hart, where there are breakpoints at these addresses.
-pub(crate) fn why(software: &[u64], hardware: &[u64], hart: &Hart) -> Reason
-    ensures { result ≡ why software.now hardware.now hart.now }
-{
-    match reason_of(software, hart) {
-        Reason::Step if hardware.contains(&hart.pc) => Reason::HardwareBreakpoint,
-        reason => reason,
-    }
-}
-
-/// The same in a session.
+/// Why one stands at a hart in a session.
 pub(crate) fn why_in(session: &Session, hart: &Hart) -> Reason
-    ensures { result ≡ why (state_of session.now).software (state_of session.now).hardware
+    ensures { result ≡ reason_of (state_of session.now).software (state_of session.now).hardware
         hart.now }
 {
-    let hardware = session.hardware.as_slice();
-    why(session.software.as_slice(), hardware, hart)
+    reason_of(&session.software, &session.hardware, hart)
 }

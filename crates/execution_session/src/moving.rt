@@ -5,10 +5,11 @@ ghost use Rattle.execution_session.specs.Moving.{ahead, at_end, back_alone_to, b
 ghost use Rattle.execution_session.specs.Sessions.{looked_at, state_of};
 ghost use Rattle.execution_moments.specs.Told.{previous_by};
 
-use crate::knowing::{why, why_in};
+use crate::knowing::why_in;
 use crate::past::Past;
 use crate::session::{Session, Standing};
 use gdb_replies::Reason;
+use gdb_talk::reason_of;
 use moments::Asked;
 use pages::OutOfMemory;
 use std::alloc::Global;
@@ -267,7 +268,7 @@ fn step_back_alone(alloc: Global, past: &Past, standing: Standing, hart: u8) -> 
         return standing.stays(Reason::Begin, hart);
     };
     match past.course.moment_at(time) {
-        Some(moment) => standing.moved(time, true, why(&[], &[], &moment.hart), hart),
+        Some(moment) => standing.moved(time, true, reason_of(&[], &[], &moment.hart), hart),
         None => standing,
     }
 }

@@ -4,8 +4,8 @@ ghost use Rattle.execution_session.specs.Serving.{HasEnded, Served, ServesOn, Ta
 
 use crate::past::Past;
 use crate::talk::Talk;
-use gdb_packets::Reader;
-use gdb_talk::refuse_lost;
+use gdb_packets::{Reader, acknowledge};
+use gdb_talk::{refuse_lost, say};
 use host_io::{RunError, Sink, Source};
 use std::alloc::Global;
 
@@ -61,7 +61,9 @@ fn hear_next<S: Source, K: Sink>(
     let Some(item) = heard else {
         return Ok(false);
     };
-    talk.hear(alloc, past, &item, out)?;
+    acknowledge(&item, out)?;
+    let response = talk.hear(alloc, past, &item);
+    say(&response, out)?;
     if talk.has_ended(&item) {
         return Ok(false);
     }

@@ -1,17 +1,18 @@
 //! What a debugger says, one thing after another.
 
-ghost use Rattle.std.specs.Prelude.{◌≡◌, ◌++◌, ℕ, List, OnOk};
+ghost use Rattle.std.specs.Prelude.{◌≡◌};
 ghost use Rattle.gdb_packets.specs.Views.{told_in};
 ghost use Rattle.execution_session.specs.Sessions.{looked_at, state_of};
-ghost use Rattle.execution_session.specs.Serving.{Hears, Replies, RepliesTo, begun, talking};
+ghost use Rattle.execution_session.specs.Serving.{HearsBy, RepliesTo, begun, talking};
 ghost use Rattle.gdb_talk.specs.Asking.{asked_by, ends};
+ghost use Rattle.gdb_talk.specs.Saying.{response_text};
 
 use crate::answering::answer;
 use crate::past::Past;
 use crate::session::Session;
-use gdb_packets::{Item, Request, acknowledge};
-use gdb_talk::{asked_by, has_left, refuse};
-use host_io::{RunError, Sink};
+use gdb_packets::{Item, Request};
+use gdb_talk::{Response, asked_by, has_left};
+use pages::OutOfMemory;
 use std::alloc::Global;
 
 /// A debugger's session, and what it asked for last.
@@ -32,25 +33,16 @@ impl Talk {
         }
     }
 
-    /// Hears what a debugger says, and answers it.
-    pub(crate) fn hear<K: Sink>(
-        &mut self,
-        alloc: Global,
-        past: &Past,
-        item: &Item,
-        out: &mut K,
-    ) -> Result<(), RunError>
-        ensures { OnOk result ((written : List ℕ) ×
-            Hears (looked_at past.now) (talking self.old) (told_in item.now) written
-            (talking self.new) × (K.took out.new ≡ K.took out.old ++ written)) }
+    /// Hears what a debugger says: what is said behind its acknowledgement.
+    pub(crate) fn hear(&mut self, alloc: Global, past: &Past, item: &Item) -> Response
+        ensures { HearsBy (looked_at past.now) (talking self.old)
+            (asked_by (told_in item.now) self.old.last) (response_text result) (talking self.new) }
     {
-        acknowledge(item, out)?;
         let Some(request) = asked_by(item, self.last) else {
-            return Ok(());
+            return Response::Nothing;
         };
-        reply(alloc, past, &mut self.session, request, out)?;
         self.last = Some(request);
-        Ok(())
+        reply(alloc, past, &mut self.session, request)
     }
 
     /// Whether the debugger has left, where this is what it said last.
@@ -61,39 +53,16 @@ impl Talk {
     }
 }
 
-/// Replies to a request, but for one that the execution is to end.
-fn reply<K: Sink>(
-    alloc: Global,
-    past: &Past,
-    session: &mut Session,
-    request: Request,
-    out: &mut K,
-) -> Result<(), RunError>
-    ensures { OnOk result ((written : List ℕ) ×
-        RepliesTo (looked_at past.now) (state_of session.old) request written
-        (state_of session.new) × (K.took out.new ≡ K.took out.old ++ written)) }
+/// The reply to a request, but for one that the execution is to end, or that it found no memory.
+fn reply(alloc: Global, past: &Past, session: &mut Session, request: Request) -> Response
+    ensures { RepliesTo (looked_at past.now) (state_of session.old) request (response_text result)
+        (state_of session.new) }
 {
     match request {
-        Request::Kill => Ok(()),
-        _ => answer_or_refuse(alloc, past, session, request, out),
-    }
-}
-
-/// Answers a request, or says that it found no memory.
-fn answer_or_refuse<K: Sink>(
-    alloc: Global,
-    past: &Past,
-    session: &mut Session,
-    request: Request,
-    out: &mut K,
-) -> Result<(), RunError>
-    ensures { OnOk result ((written : List ℕ) ×
-        Replies (looked_at past.now) (state_of session.old) request written (state_of session.new) ×
-        (K.took out.new ≡ K.took out.old ++ written)) }
-{
-    match answer(alloc, past, session, request, out) {
-        Ok(()) => Ok(()),
-        Err(RunError::OutOfMemory) => refuse(out),
-        Err(error) => Err(error),
+        Request::Kill => Response::Nothing,
+        _ => match answer(alloc, past, session, request) {
+            Ok(text) => Response::Packets(text),
+            Err(OutOfMemory) => Response::Refused,
+        },
     }
 }

@@ -1,43 +1,16 @@
 //! The list of threads.
 
 ghost use Rattle.std.specs.Prelude.{◌≡◌, ◌++◌, ◌+◌, IfOk, OnOk, codes};
-ghost use Rattle.std.specs.Fmt.{decimal};
 ghost use Rattle.execution_session.specs.Sessions.{looked_at, position_at};
 ghost use Rattle.execution_session.specs.Threads.{state_text, thread_element, thread_entries, thread_entry, thread_list};
 ghost use Rattle.execution_moments.specs.Shown.{hart_at};
 ghost use Rattle.gdb_replies.specs.Replies.{thread_list_begin, thread_list_end};
 
 use crate::past::Past;
-use gdb_replies::{begin_thread_list, end_thread_list};
+use gdb_replies::{begin_thread_list, end_thread_list, put, put_words};
 use hart_step::{Hart, Stop};
-use itoa::write_digits;
 use pages::OutOfMemory;
 use std::alloc::Global;
-
-/// Adds bytes.
-fn put(text: &mut Vec<u8>, bytes: &[u8]) -> Result<(), OutOfMemory>
-    ensures { OnOk result (text.new.items ≡ text.old.items ++ bytes.now) }
-{
-    text.extend_from_slice(bytes)?;
-    Ok(())
-}
-
-/// Adds a number in decimal.
-fn put_number(text: &mut Vec<u8>, number: u64) -> Result<(), OutOfMemory>
-    ensures { OnOk result (text.new.items ≡ text.old.items ++ decimal number) }
-{
-    let mut digits = [0; 20];
-    let start = write_digits(number, &mut digits, 20);
-    put(text, &digits[start..])
-}
-
-/// Adds a number in decimal behind a word.
-fn put_words(text: &mut Vec<u8>, word: &[u8], number: u64) -> Result<(), OutOfMemory>
-    ensures { OnOk result (text.new.items ≡ text.old.items ++ (word.now ++ decimal number)) }
-{
-    put(text, word)?;
-    put_number(text, number)
-}
 
 /// Adds what is said of a hart: where its next memory operation stands in the order, and how many instructions it has done; or how it
 /// ended.

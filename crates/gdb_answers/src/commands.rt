@@ -1,13 +1,10 @@
 //! The user's commands.
 
-ghost use Rattle.std.specs.Prelude.{◌≡◌, ◌≤◌, ◌+◌, ◌<◌, ◌^◌, ◌++◌, Err, IfOk, IfErr, OnOk};
-ghost use Rattle.host_io.specs.Taken.{WritesText};
-ghost use Rattle.host_io.specs.declared.error.RunError.TheVariants as refusals;
+ghost use Rattle.std.specs.Prelude.{◌≡◌, ◌≤◌, ◌+◌, ◌<◌, ◌^◌, ◌++◌, IfOk, OnOk};
 ghost use Rattle.machine.specs.Machine.{Running};
 ghost use Rattle.machine.specs.Untraced.{IsUntraced};
 ghost use Rattle.gdb_packets.specs.Writing.{packet_text};
 ghost use Rattle.gdb_replies.specs.CommandTexts.{where_line};
-ghost use Rattle.hex.specs.Hex.{encode_lower};
 ghost use Rattle.gdb_answers.specs.Answers.{note_at};
 ghost use Rattle.timelines.specs.Shown.{seen};
 ghost use Rattle.gdb_answers.specs.Commands.{hart_entry, hart_lines, harts_answer, plan_answer, plan_text, quotas_text, where_answer};
@@ -15,10 +12,9 @@ ghost use Rattle.round_schedule.specs.Bounds.{AreWorkers};
 
 use crate::noting::note_at;
 use gdb_replies::{
-    Reply, ThreadNote, add_hart_line, add_plan_head, add_quota, add_where_line, write_reply,
+    Reply, ThreadNote, add_hart_line, add_plan_head, add_quota, add_where_line, reply_text,
 };
 use gdb_talk::{Look, note_of};
-use host_io::{RunError, Sink};
 use pages::OutOfMemory;
 use past_harts::Point;
 use round_planner::Plan;
@@ -28,58 +24,33 @@ use std::thread::Threads;
 use timelines::Timeline;
 
 /// Answers where the run stands at a point, of its moment's hart. It may wait.
-///
-/// # Errors
-///
-/// `OutOfMemory`: nothing is written then. `SinkFailed`: a beginning of the packet is.
-pub fn answer_where<R: Threads + Wait + Sync, K: Sink>(
+pub fn answer_where<R: Threads + Wait + Sync>(
     rt: &R,
     alloc: Global,
     timeline: &mut Timeline,
     point: Point,
     workers: u32,
-    out: &mut K,
-) -> Result<(), RunError>
+) -> Result<Vec<u8>, OutOfMemory>
     requires within { point.moment.rounds ≤ timeline.old.rounds }
     requires workers { AreWorkers workers }
     requires rounds { point.moment.rounds + 1 < 2 ^ 32 }
     ensures stays { timeline.new ≡ timeline.old }
-    ensures writes { (m : Running) → IsUntraced m timeline.old.start →
-        OnOk result (K.took out.new ≡ K.took out.old
-        ++ packet_text (where_answer point.moment (seen m point point.moment.place.hart))) }
-    ensures memory { result ≡ Err refusals.OutOfMemory → K.took out.new ≡ K.took out.old }
+    ensures text { (m : Running) → IsUntraced m timeline.old.start → IfOk result (λ text. text.items
+        ≡ packet_text (where_answer point.moment (seen m point point.moment.place.hart))) }
 {
     let moment = point.moment;
     let place = moment.place;
     let Some(sight) = timeline.shown_at(rt, &point, place.hart, workers)? else {
-        return write_reply(alloc, &Reply::Missing, out);
+        return reply_text(alloc, &Reply::Missing);
     };
     let hart = sight.hart();
     drop(sight);
     let note = note_of(place.hart, &hart, moment);
-    say_where(alloc, &note, place.count, hart.pc, out)
+    let text = where_line(alloc, &note, place.count, hart.pc)?;
+    reply_text(alloc, &Reply::Words(text.as_slice()))
 }
 
-/// Answers with the line of a hart's note, behind so many instructions of the round and with this pc.
-fn say_where<K: Sink>(
-    alloc: Global,
-    note: &ThreadNote,
-    count: u64,
-    pc: u64,
-    out: &mut K,
-) -> Result<(), RunError>
-    ensures writes { WritesText (packet_text (encode_lower (where_line note.now count pc)))
-        (K.took out.old)
-        (K.failures out.old) result (K.took out.new) (K.failures out.new) }
-    ensures memory { result ≡ Err refusals.OutOfMemory → K.took out.new ≡ K.took out.old }
-{
-    match where_line(alloc, note, count, pc) {
-        Ok(text) => write_reply(alloc, &Reply::Words(text.as_slice()), out),
-        Err(_) => Err(RunError::OutOfMemory),
-    }
-}
-
-/// That line.
+/// The line of a hart's note, behind so many instructions of the round and with this pc.
 fn where_line(alloc: Global, note: &ThreadNote, count: u64, pc: u64) -> Result<Vec<u8>, OutOfMemory>
     ensures { IfOk result (λ text. text.items ≡ where_line note.now count pc) }
 {
@@ -89,27 +60,21 @@ fn where_line(alloc: Global, note: &ThreadNote, count: u64, pc: u64) -> Result<V
 }
 
 /// Answers where each hart before one is at a point. It may wait.
-///
-/// # Errors
-///
-/// `OutOfMemory`: nothing is written then. `SinkFailed`: a beginning of the packet is.
-pub fn answer_harts<R: Threads + Wait + Sync, K: Sink>(
+pub fn answer_harts<R: Threads + Wait + Sync>(
     rt: &R,
     alloc: Global,
     timeline: &mut Timeline,
     look: Look,
-    out: &mut K,
-) -> Result<(), RunError>
+) -> Result<Vec<u8>, OutOfMemory>
     requires within { look.point.moment.rounds ≤ timeline.old.rounds }
     requires workers { AreWorkers look.workers }
     requires rounds { look.point.moment.rounds + 1 < 2 ^ 32 }
     ensures stays { timeline.new ≡ timeline.old }
-    ensures writes { (m : Running) → IsUntraced m timeline.old.start → OnOk result
-        (K.took out.new ≡ K.took out.old ++ packet_text (harts_answer m look.point look.hart)) }
-    ensures memory { result ≡ Err refusals.OutOfMemory → K.took out.new ≡ K.took out.old }
+    ensures text { (m : Running) → IsUntraced m timeline.old.start → IfOk result (λ text. text.items
+        ≡ packet_text (harts_answer m look.point look.hart)) }
 {
     let text = hart_lines(rt, alloc, timeline, look)?;
-    write_reply(alloc, &Reply::Words(text.as_slice()), out)
+    reply_text(alloc, &Reply::Words(text.as_slice()))
 }
 
 /// A line for each hart before one.
@@ -119,7 +84,7 @@ fn hart_lines<R: Threads + Wait + Sync>(
     alloc: Global,
     timeline: &mut Timeline,
     look: Look,
-) -> Result<Vec<u8>, RunError>
+) -> Result<Vec<u8>, OutOfMemory>
     requires within { look.point.moment.rounds ≤ timeline.old.rounds }
     requires workers { AreWorkers look.workers }
     requires rounds { look.point.moment.rounds + 1 < 2 ^ 32 }
@@ -127,7 +92,6 @@ fn hart_lines<R: Threads + Wait + Sync>(
     ensures lines { (m : Running) → IsUntraced m timeline.old.start →
         IfOk result (λ text. text.items ≡
         hart_lines m look.point look.hart) }
-    ensures refused { IfErr result (λ e. e ≡ refusals.OutOfMemory) }
 {
     let mut text = Vec::new(alloc);
     for hart in 0..look.hart {
@@ -143,14 +107,13 @@ fn add_line<R: Threads + Wait + Sync>(
     timeline: &mut Timeline,
     look: Look,
     text: &mut Vec<u8>,
-) -> Result<(), RunError>
+) -> Result<(), OutOfMemory>
     requires within { look.point.moment.rounds ≤ timeline.old.rounds }
     requires workers { AreWorkers look.workers }
     requires rounds { look.point.moment.rounds + 1 < 2 ^ 32 }
     ensures stays { timeline.new ≡ timeline.old }
     ensures entry { (m : Running) → IsUntraced m timeline.old.start → OnOk result (text.new.items ≡
         text.old.items ++ hart_entry (note_at m look.point look.hart)) }
-    ensures refused { IfErr result (λ e. e ≡ refusals.OutOfMemory) }
 {
     if let Some(note) = note_at(rt, alloc, timeline, look)? {
         add_hart_line(text, &note)?;
@@ -159,25 +122,12 @@ fn add_line<R: Threads + Wait + Sync>(
 }
 
 /// Answers how many instructions each hart may do in a round by a plan.
-///
-/// # Errors
-///
-/// `OutOfMemory`: nothing is written then. `SinkFailed`: a beginning of the packet is.
-pub fn answer_plan<K: Sink>(
-    alloc: Global,
-    plan: &Plan,
-    round: u32,
-    out: &mut K,
-) -> Result<(), RunError>
+pub fn answer_plan(alloc: Global, plan: &Plan, round: u32) -> Result<Vec<u8>, OutOfMemory>
     requires round { 1 ≤ round }
-    ensures writes { WritesText (packet_text (plan_answer plan.now round)) (K.took out.old)
-        (K.failures out.old) result (K.took out.new) (K.failures out.new) }
-    ensures memory { result ≡ Err refusals.OutOfMemory → K.took out.new ≡ K.took out.old }
+    ensures { IfOk result (λ text. text.items ≡ packet_text (plan_answer plan.now round)) }
 {
-    match plan_line(alloc, plan, round) {
-        Ok(text) => write_reply(alloc, &Reply::Words(text.as_slice()), out),
-        Err(_) => Err(RunError::OutOfMemory),
-    }
+    let text = plan_line(alloc, plan, round)?;
+    reply_text(alloc, &Reply::Words(text.as_slice()))
 }
 
 /// The line of a round by a plan.

@@ -1,5 +1,4 @@
-ghost use Rattle.std.specs.Prelude.{◌≡◌, ◌≤◌, ◌+◌, ◌<◌, ◌^◌, ◌++◌, Err, IfOk, IfErr, OnOk};
-ghost use Rattle.host_io.specs.declared.error.RunError.TheVariants as refusals;
+ghost use Rattle.std.specs.Prelude.{◌≡◌, ◌≤◌, ◌+◌, ◌<◌, ◌^◌, ◌++◌, IfOk, OnOk};
 ghost use Rattle.machine.specs.Machine.{Running};
 ghost use Rattle.machine.specs.Untraced.{IsUntraced};
 ghost use Rattle.gdb_packets.specs.Writing.{packet_text};
@@ -8,36 +7,29 @@ ghost use Rattle.gdb_replies.specs.Replies.{thread_list_begin, thread_list_end};
 ghost use Rattle.round_schedule.specs.Bounds.{AreWorkers};
 
 use crate::noting::note_at;
-use gdb_replies::{Reply, Window, add_thread, begin_thread_list, end_thread_list, write_reply};
+use gdb_replies::{Reply, Window, add_thread, begin_thread_list, end_thread_list, reply_text};
 use gdb_talk::Look;
-use host_io::{RunError, Sink};
+use pages::OutOfMemory;
 use std::alloc::Global;
 use std::sync::Wait;
 use std::thread::Threads;
 use timelines::Timeline;
 
 /// Answers with a part of the list of so many threads at a point. It may wait.
-///
-/// # Errors
-///
-/// `OutOfMemory`: nothing is written then. `SinkFailed`: a beginning of the packet is.
-pub fn answer_threads<R: Threads + Wait + Sync, K: Sink>(
+pub fn answer_threads<R: Threads + Wait + Sync>(
     rt: &R,
     alloc: Global,
     timeline: &mut Timeline,
     look: Look,
     offset: u64,
     count: u64,
-    out: &mut K,
-) -> Result<(), RunError>
+) -> Result<Vec<u8>, OutOfMemory>
     requires within { look.point.moment.rounds ≤ timeline.old.rounds }
     requires workers { AreWorkers look.workers }
     requires rounds { look.point.moment.rounds + 1 < 2 ^ 32 }
     ensures stays { timeline.new ≡ timeline.old }
-    ensures writes { (m : Running) → IsUntraced m timeline.old.start →
-        OnOk result (K.took out.new ≡ K.took out.old
-        ++ packet_text (thread_list_answer m look.point look.hart offset count)) }
-    ensures memory { result ≡ Err refusals.OutOfMemory → K.took out.new ≡ K.took out.old }
+    ensures text { (m : Running) → IsUntraced m timeline.old.start → IfOk result (λ text. text.items
+        ≡ packet_text (thread_list_answer m look.point look.hart offset count)) }
 {
     let text = thread_list(rt, alloc, timeline, look)?;
     let part = Window {
@@ -45,7 +37,7 @@ pub fn answer_threads<R: Threads + Wait + Sync, K: Sink>(
         offset,
         count,
     };
-    write_reply(alloc, &Reply::Part(part), out)
+    reply_text(alloc, &Reply::Part(part))
 }
 
 /// The list of the threads of the harts before one.
@@ -55,7 +47,7 @@ fn thread_list<R: Threads + Wait + Sync>(
     alloc: Global,
     timeline: &mut Timeline,
     look: Look,
-) -> Result<Vec<u8>, RunError>
+) -> Result<Vec<u8>, OutOfMemory>
     requires within { look.point.moment.rounds ≤ timeline.old.rounds }
     requires workers { AreWorkers look.workers }
     requires rounds { look.point.moment.rounds + 1 < 2 ^ 32 }
@@ -63,7 +55,6 @@ fn thread_list<R: Threads + Wait + Sync>(
     ensures list { (m : Running) → IsUntraced m timeline.old.start →
         IfOk result (λ text. text.items ≡
         thread_list_begin ++ thread_entries m look.point look.hart ++ thread_list_end) }
-    ensures refused { IfErr result (λ e. e ≡ refusals.OutOfMemory) }
 {
     let mut text = begin_thread_list(alloc)?;
     for hart in 0..look.hart {
@@ -80,7 +71,7 @@ fn add_entry<R: Threads + Wait + Sync>(
     timeline: &mut Timeline,
     look: Look,
     text: &mut Vec<u8>,
-) -> Result<(), RunError>
+) -> Result<(), OutOfMemory>
     requires within { look.point.moment.rounds ≤ timeline.old.rounds }
     requires workers { AreWorkers look.workers }
     requires rounds { look.point.moment.rounds + 1 < 2 ^ 32 }
@@ -88,7 +79,6 @@ fn add_entry<R: Threads + Wait + Sync>(
     ensures stays { timeline.new ≡ timeline.old }
     ensures entry { (m : Running) → IsUntraced m timeline.old.start → OnOk result (text.new.items ≡
         text.old.items ++ thread_entry (note_at m look.point look.hart)) }
-    ensures refused { IfErr result (λ e. e ≡ refusals.OutOfMemory) }
 {
     if let Some(note) = note_at(rt, alloc, timeline, look)? {
         add_thread(text, &note)?;

@@ -1,9 +1,7 @@
 //! The stores of a hart that are not committed.
 
-ghost use Rattle.std.specs.Prelude.{◌≡◌, ◌≤◌, ◌++◌, Err, IfOk, OnOk};
+ghost use Rattle.std.specs.Prelude.{◌≡◌, ◌≤◌, ◌++◌, IfOk, OnOk};
 ghost use Rattle.hex.specs.Hex.{encode_lower};
-ghost use Rattle.host_io.specs.Taken.{WritesText};
-ghost use Rattle.host_io.specs.declared.error.RunError.TheVariants as refusals;
 ghost use Rattle.machine.specs.Machine.{Running};
 ghost use Rattle.machine.specs.Untraced.{IsUntraced};
 ghost use Rattle.gdb_packets.specs.Writing.{packet_text};
@@ -13,9 +11,8 @@ ghost use Rattle.round_schedule.specs.Bounds.{AreWorkers};
 
 use crate::output::end_of;
 use crate::saying::say_or;
-use gdb_replies::{Reply, add_store_line, write_reply};
+use gdb_replies::{Reply, add_store_line, reply_text};
 use gdb_talk::Look;
-use host_io::{RunError, Sink};
 use pages::{OutOfMemory, Store};
 use std::alloc::Global;
 use std::sync::Wait;
@@ -26,43 +23,33 @@ use timelines::Timeline;
 const NONE: &[u8] = b"no stores\n";
 
 /// Answers with the stores of a hart that are not committed at a point of the run, and of many with the last lines. It may wait.
-///
-/// # Errors
-///
-/// `OutOfMemory`: nothing is written then. `SinkFailed`: a beginning of the packet is.
-pub fn answer_buffer<R: Threads + Wait + Sync, K: Sink>(
+pub fn answer_buffer<R: Threads + Wait + Sync>(
     rt: &R,
     alloc: Global,
     timeline: &mut Timeline,
     look: Look,
-    out: &mut K,
-) -> Result<(), RunError>
+) -> Result<Vec<u8>, OutOfMemory>
     requires within { look.point.moment.rounds ≤ timeline.old.rounds }
     requires workers { AreWorkers look.workers }
     ensures stays { timeline.new ≡ timeline.old }
-    ensures writes { (m : Running) → IsUntraced m timeline.old.start → OnOk result
-        (K.took out.new ≡ K.took out.old ++ packet_text
-        (buffer_answer m look.point look.hart (seen m look.point look.hart))) }
-    ensures memory { result ≡ Err refusals.OutOfMemory → K.took out.new ≡ K.took out.old }
+    ensures text { (m : Running) → IsUntraced m timeline.old.start → IfOk result (λ text. text.items
+        ≡ packet_text (buffer_answer m look.point look.hart (seen m look.point look.hart))) }
 {
     let Some(sight) = timeline.shown_at(rt, &look.point, look.hart, look.workers)? else {
-        return write_reply(alloc, &Reply::Missing, out);
+        return reply_text(alloc, &Reply::Missing);
     };
     drop(sight);
     let part = timeline.own_part_at(rt, &look.point, look.hart, look.workers)?;
-    say_buffer(alloc, part.stores.as_slice(), out)
+    say_buffer(alloc, part.stores.as_slice())
 }
 
 /// Answers with these stores.
-fn say_buffer<K: Sink>(alloc: Global, stores: &[Store], out: &mut K) -> Result<(), RunError>
-    ensures writes { WritesText (packet_text (encode_lower (buffer_text stores.now)))
-        (K.took out.old) (K.failures out.old) result (K.took out.new) (K.failures out.new) }
-    ensures memory { result ≡ Err refusals.OutOfMemory → K.took out.new ≡ K.took out.old }
+fn say_buffer(alloc: Global, stores: &[Store]) -> Result<Vec<u8>, OutOfMemory>
+    ensures { IfOk result (λ text. text.items
+        ≡ packet_text (encode_lower (buffer_text stores.now))) }
 {
-    match store_lines(alloc, stores) {
-        Ok(text) => say_or(alloc, end_of(text.as_slice()), NONE, out),
-        Err(_) => Err(RunError::OutOfMemory),
-    }
+    let text = store_lines(alloc, stores)?;
+    say_or(alloc, end_of(text.as_slice()), NONE)
 }
 
 /// A line for each store.

@@ -1,8 +1,7 @@
 //! What the step at which a run stands reads or writes.
 
-ghost use Rattle.std.specs.Prelude.{◌≡◌, ◌≤◌, ◌<◌, ◌+◌, ◌^◌, ◌++◌, Err, IfErr, IfOk, OnOk};
+ghost use Rattle.std.specs.Prelude.{◌≡◌, ◌≤◌, ◌<◌, ◌+◌, ◌^◌, ◌++◌, IfOk, OnOk};
 ghost use Rattle.std.specs.Option.{option_map};
-ghost use Rattle.host_io.specs.declared.error.RunError.TheVariants as refusals;
 ghost use Rattle.machine.specs.Machine.{Running};
 ghost use Rattle.machine.specs.Untraced.{IsUntraced};
 ghost use Rattle.past_harts.specs.Points.{is_behind_move};
@@ -12,8 +11,7 @@ ghost use Rattle.gdb_events.specs.Events.{event_answer, event_packet, event_word
 ghost use Rattle.round_schedule.specs.Bounds.{AreWorkers};
 
 use crate::round_events::events_of_round;
-use gdb_replies::{Reply, reply_text, write_reply};
-use host_io::{RunError, Sink};
+use gdb_replies::{Reply, reply_text};
 use pages::OutOfMemory;
 use past_harts::Point;
 use report_lines::{Line, Tail, event_line};
@@ -31,32 +29,25 @@ const ENDS: &[u8] = b"the recording ends here\n";
 
 /// Answers with the access of the step that is next at a point of the run, or that was last where the point is behind a move. It may
 /// wait.
-///
-/// # Errors
-///
-/// `OutOfMemory`: nothing is written then. `SinkFailed`: a beginning of the packet is.
-pub fn answer_event<R: Threads + Wait + Sync, K: Sink>(
+pub fn answer_event<R: Threads + Wait + Sync>(
     rt: &R,
     alloc: Global,
     timeline: &mut Timeline,
     point: Point,
     workers: u32,
-    out: &mut K,
-) -> Result<(), RunError>
+) -> Result<Vec<u8>, OutOfMemory>
     requires within { point.moment.rounds ≤ timeline.old.rounds }
     requires workers { AreWorkers workers }
     requires rounds { point.moment.rounds + 1 < 2 ^ 32 }
     requires run { (m : Running) × IsUntraced m timeline.old.start }
     ensures stays { timeline.new ≡ timeline.old }
-    ensures writes { (m : Running) → IsUntraced m timeline.old.start →
-        OnOk result (K.took out.new ≡ K.took out.old
-        ++ packet_text (event_answer timeline.old.rounds m point
+    ensures text { (m : Running) → IsUntraced m timeline.old.start → IfOk result (λ text. text.items
+        ≡ packet_text (event_answer timeline.old.rounds m point
         (seen m point point.moment.place.hart))) }
-    ensures memory { result ≡ Err refusals.OutOfMemory → K.took out.new ≡ K.took out.old }
 {
     match event_words(rt, alloc, timeline, point, workers)? {
-        Some(words) => write_reply(alloc, &Reply::Words(words.as_slice()), out),
-        None => write_reply(alloc, &Reply::Missing, out),
+        Some(words) => reply_text(alloc, &Reply::Words(words.as_slice())),
+        None => reply_text(alloc, &Reply::Missing),
     }
 }
 
@@ -67,22 +58,18 @@ pub(crate) fn event_packet<R: Threads + Wait + Sync>(
     timeline: &mut Timeline,
     point: Point,
     workers: u32,
-) -> Result<Vec<u8>, RunError>
+) -> Result<Vec<u8>, OutOfMemory>
     requires within { point.moment.rounds ≤ timeline.old.rounds }
     requires workers { AreWorkers workers }
     requires rounds { point.moment.rounds + 1 < 2 ^ 32 }
     requires run { (m : Running) × IsUntraced m timeline.old.start }
     ensures stays { timeline.new ≡ timeline.old }
-    ensures packet { (m : Running) → IsUntraced m timeline.old.start →
+    ensures text { (m : Running) → IsUntraced m timeline.old.start →
         IfOk result (λ text. text.items
         ≡ event_packet timeline.old.rounds m point (seen m point point.moment.place.hart)) }
-    ensures refused { IfErr result (λ e. e ≡ refusals.OutOfMemory) }
 {
     match event_words(rt, alloc, timeline, point, workers)? {
-        Some(words) => {
-            let packet = reply_text(alloc, &Reply::Console(words.as_slice()))?;
-            Ok(packet)
-        }
+        Some(words) => reply_text(alloc, &Reply::Console(words.as_slice())),
         None => Ok(Vec::new(alloc)),
     }
 }
@@ -94,7 +81,7 @@ fn event_words<R: Threads + Wait + Sync>(
     timeline: &mut Timeline,
     point: Point,
     workers: u32,
-) -> Result<Option<Vec<u8>>, RunError>
+) -> Result<Option<Vec<u8>>, OutOfMemory>
     requires within { point.moment.rounds ≤ timeline.old.rounds }
     requires workers { AreWorkers workers }
     requires rounds { point.moment.rounds + 1 < 2 ^ 32 }
@@ -103,7 +90,6 @@ fn event_words<R: Threads + Wait + Sync>(
     ensures words { (m : Running) → IsUntraced m timeline.old.start →
         IfOk result (λ w. option_map (λ v. v.items) w
         ≡ event_words timeline.old.rounds m point (seen m point point.moment.place.hart)) }
-    ensures refused { IfErr result (λ e. e ≡ refusals.OutOfMemory) }
 {
     let rounds = point.moment.rounds;
     if rounds >= timeline.rounds() {

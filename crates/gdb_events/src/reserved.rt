@@ -1,8 +1,7 @@
 //! Which bytes each hart has reserved.
 
-ghost use Rattle.std.specs.Prelude.{◌≡◌, ◌≤◌, ◌<◌, ◌+◌, ◌^◌, ◌++◌, List, filter, length, Err, IfErr, IfOk, OnOk};
+ghost use Rattle.std.specs.Prelude.{◌≡◌, ◌≤◌, ◌<◌, ◌+◌, ◌^◌, ◌++◌, List, filter, length, IfOk, OnOk};
 ghost use Rattle.hex.specs.Hex.{encode_lower};
-ghost use Rattle.host_io.specs.declared.error.RunError.TheVariants as refusals;
 ghost use Rattle.machine.specs.Machine.{Running, after_rounds};
 ghost use Rattle.machine.specs.Untraced.{IsAfter, IsUntraced};
 ghost use Rattle.round_schedule.specs.declared.event.Event.{Event};
@@ -16,8 +15,7 @@ ghost use Rattle.round_schedule.specs.Bounds.{AreWorkers};
 use crate::held::{no_reservations, note};
 use crate::round_events::{is_parallel, next_events};
 use crate::saying::say_or;
-use gdb_replies::{Reply, add_reservation_line, write_reply};
-use host_io::{RunError, Sink};
+use gdb_replies::{Reply, add_reservation_line, reply_text};
 use machine::UntracedMachine;
 use pages::OutOfMemory;
 use past_harts::{Moment, Point};
@@ -25,18 +23,14 @@ use round_schedule::{Event, Span};
 use std::alloc::Global;
 use std::sync::Wait;
 use std::thread::Threads;
-use timelines::Timeline;
+use timelines::{Timeline, of_memory};
 
 /// What is said where there are none.
 const NONE: &[u8] = b"no reservations\n";
 
 /// Answers with the reservations of the first harts, so many, at a point of the run, which begins with this machine. The rounds up to
 /// the point are done for it with their events. It may wait.
-///
-/// # Errors
-///
-/// `OutOfMemory`: nothing is written then. `SinkFailed`: a beginning of the packet is.
-pub fn answer_reservations<R: Threads + Wait + Sync, K: Sink>(
+pub fn answer_reservations<R: Threads + Wait + Sync>(
     rt: &R,
     alloc: Global,
     timeline: &mut Timeline,
@@ -44,8 +38,7 @@ pub fn answer_reservations<R: Threads + Wait + Sync, K: Sink>(
     point: Point,
     harts: u32,
     workers: u32,
-    out: &mut K,
-) -> Result<(), RunError>
+) -> Result<Vec<u8>, OutOfMemory>
     requires within { point.moment.rounds ≤ timeline.old.rounds }
     requires workers { AreWorkers workers }
     requires fresh { start.old.rounds ≡ 0 }
@@ -53,22 +46,20 @@ pub fn answer_reservations<R: Threads + Wait + Sync, K: Sink>(
     requires start { start.old ≡ timeline.old.start }
     requires run { (m : Running) × IsUntraced m start.old }
     ensures stays { (timeline.new ≡ timeline.old) × (start.new ≡ start.old) }
-    ensures writes { (m : Running) → IsUntraced m timeline.old.start →
-        OnOk result (K.took out.new ≡ K.took out.old
-        ++ packet_text (reservations_answer m point harts (seen m point point.moment.place.hart))) }
-    ensures memory { result ≡ Err refusals.OutOfMemory → K.took out.new ≡ K.took out.old }
+    ensures text { (m : Running) → IsUntraced m timeline.old.start → IfOk result (λ text. text.items
+        ≡ packet_text (reservations_answer m point harts (seen m point point.moment.place.hart))) }
 {
     let moment = point.moment;
     let Some(sight) = timeline.shown_at(rt, &point, moment.place.hart, workers)? else {
-        return write_reply(alloc, &Reply::Missing, out);
+        return reply_text(alloc, &Reply::Missing);
     };
     let done = sight.hart().done;
     drop(sight);
-    let mut machine = start.share()?;
+    let mut machine = of_memory(start.share())?;
     let held = reservations_at(rt, alloc, &mut machine, moment, done, harts, workers);
     drop(machine);
     let reservations = held?;
-    say_reservations(alloc, reservations.as_slice(), out)
+    say_reservations(alloc, reservations.as_slice())
 }
 
 /// The reservations at a moment of a hart that has done so many instructions, of a run that begins with this machine, which does the
@@ -81,7 +72,7 @@ fn reservations_at<R: Threads + Wait + Sync>(
     done: u64,
     harts: u32,
     workers: u32,
-) -> Result<Vec<Option<Span>>, RunError>
+) -> Result<Vec<Option<Span>>, OutOfMemory>
     requires run { (m : Running) × IsUntraced m machine.old }
     requires fresh { machine.old.rounds ≡ 0 }
     requires rounds { moment.rounds + 1 < 2 ^ 32 }
@@ -89,7 +80,6 @@ fn reservations_at<R: Threads + Wait + Sync>(
     ensures count { IfOk result (λ v. length v.items ≡ harts) }
     ensures tied { (m : Running) → IsUntraced m machine.old → IfOk result (λ v. Tied v.items
         (trace_at moment done (after_rounds moment.rounds m))) }
-    ensures refused { IfErr result (λ e. e ≡ refusals.OutOfMemory) }
 {
     let mut reservations = reservations_after(rt, alloc, machine, moment.rounds, harts, workers)?;
     note_seen(rt, alloc, machine, moment, done, workers, &mut reservations)?;
@@ -104,7 +94,7 @@ fn reservations_after<R: Threads + Wait + Sync>(
     rounds: u32,
     harts: u32,
     workers: u32,
-) -> Result<Vec<Option<Span>>, RunError>
+) -> Result<Vec<Option<Span>>, OutOfMemory>
     requires run { (m : Running) × IsUntraced m machine.old }
     requires fresh { machine.old.rounds ≡ 0 }
     requires rounds { rounds + 1 < 2 ^ 32 }
@@ -114,7 +104,6 @@ fn reservations_after<R: Threads + Wait + Sync>(
     ensures count { IfOk result (λ v. length v.items ≡ harts) }
     ensures tied { (m : Running) → IsUntraced m machine.old → IfOk result (λ v. Tied v.items
         (after_rounds rounds m).state.trace) }
-    ensures refused { IfErr result (λ e. e ≡ refusals.OutOfMemory) }
 {
     let mut reservations = no_reservations(alloc, harts)?;
     for _i in 0..rounds {
@@ -133,7 +122,7 @@ fn note_seen<R: Threads + Wait + Sync>(
     done: u64,
     workers: u32,
     reservations: &mut Vec<Option<Span>>,
-) -> Result<(), RunError>
+) -> Result<(), OutOfMemory>
     requires run { (m : Running) × IsUntraced m machine.old }
     requires rounds { machine.old.rounds + 1 < 2 ^ 32 }
     requires workers { AreWorkers workers }
@@ -142,7 +131,6 @@ fn note_seen<R: Threads + Wait + Sync>(
     ensures tied { (m : Running) → IsUntraced m machine.old → (t : List Event) →
         Tied reservations.old.items t →
         OnOk result (Tied reservations.new.items (t ++ seen_events moment done (round_events m))) }
-    ensures refused { IfErr result (λ e. e ≡ refusals.OutOfMemory) }
 {
     if is_parallel(moment.place.phase) {
         return Ok(());
@@ -181,21 +169,13 @@ fn is_seen(event: &Event, moment: Moment, done: u64) -> bool
 }
 
 /// Answers with some reservations.
-fn say_reservations<K: Sink>(
-    alloc: Global,
-    reservations: &[Option<Span>],
-    out: &mut K,
-) -> Result<(), RunError>
+fn say_reservations(alloc: Global, reservations: &[Option<Span>]) -> Result<Vec<u8>, OutOfMemory>
     requires few { length reservations.now < 2 ^ 32 }
-    ensures writes { (t : List Event) → Tied reservations.now t →
-        OnOk result (K.took out.new ≡ K.took out.old
-        ++ packet_text (encode_lower (reserved_text t (length reservations.now)))) }
-    ensures memory { result ≡ Err refusals.OutOfMemory → K.took out.new ≡ K.took out.old }
+    ensures { (t : List Event) → Tied reservations.now t → IfOk result (λ text. text.items ≡
+        packet_text (encode_lower (reserved_text t (length reservations.now)))) }
 {
-    match held_lines(alloc, reservations) {
-        Ok(text) => say_or(alloc, text.as_slice(), NONE, out),
-        Err(_) => Err(RunError::OutOfMemory),
-    }
+    let text = held_lines(alloc, reservations)?;
+    say_or(alloc, text.as_slice(), NONE)
 }
 
 /// A line for each hart that has one.

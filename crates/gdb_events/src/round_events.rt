@@ -1,20 +1,19 @@
 //! The events of a round.
 
-ghost use Rattle.std.specs.Prelude.{◌≡◌, ◌≤◌, ◌<◌, ◌+◌, ◌^◌, ◌++◌, IfErr, IfOk, OnOk};
-ghost use Rattle.host_io.specs.declared.error.RunError.TheVariants as refusals;
+ghost use Rattle.std.specs.Prelude.{◌≡◌, ◌≤◌, ◌<◌, ◌+◌, ◌^◌, ◌++◌, IfOk, OnOk};
 ghost use Rattle.machine.specs.Machine.{Running, after_rounds};
 ghost use Rattle.machine.specs.Untraced.{IsAfter, IsUntraced};
 ghost use Rattle.gdb_events.specs.Rounds.{is_parallel, round_events};
 ghost use Rattle.round_schedule.specs.Bounds.{AreWorkers};
 
-use host_io::RunError;
 use machine::UntracedMachine;
+use pages::OutOfMemory;
 use past_harts::run_noting;
 use round_schedule::{Event, Phase};
 use std::alloc::Global;
 use std::sync::Wait;
 use std::thread::Threads;
-use timelines::Timeline;
+use timelines::{Timeline, of_memory};
 use trace::Trace;
 
 /// The events of the round after so many of a run.
@@ -24,7 +23,7 @@ pub(crate) fn events_of_round<R: Threads + Wait + Sync>(
     timeline: &mut Timeline,
     rounds: u32,
     workers: u32,
-) -> Result<Vec<Event>, RunError>
+) -> Result<Vec<Event>, OutOfMemory>
     requires within { rounds ≤ timeline.old.rounds }
     requires rounds { rounds + 1 < 2 ^ 32 }
     requires workers { AreWorkers workers }
@@ -32,7 +31,6 @@ pub(crate) fn events_of_round<R: Threads + Wait + Sync>(
     ensures stays { timeline.new ≡ timeline.old }
     ensures events { (m : Running) → IsUntraced m timeline.old.start → IfOk result (λ v. v.items ≡
         round_events (after_rounds rounds m)) }
-    ensures refused { IfErr result (λ e. e ≡ refusals.OutOfMemory) }
 {
     let mut machine = timeline.machine_at(rt, rounds, workers)?;
     let events = next_events(rt, alloc, &mut machine, workers);
@@ -46,7 +44,7 @@ pub(crate) fn next_events<R: Threads + Wait + Sync>(
     alloc: Global,
     machine: &mut UntracedMachine,
     workers: u32,
-) -> Result<Vec<Event>, RunError>
+) -> Result<Vec<Event>, OutOfMemory>
     requires run { (m : Running) × IsUntraced m machine.old }
     requires rounds { machine.old.rounds + 1 < 2 ^ 32 }
     requires workers { AreWorkers workers }
@@ -56,10 +54,9 @@ pub(crate) fn next_events<R: Threads + Wait + Sync>(
         IfOk result (λ v. v.items ≡ round_events m) }
     ensures trace { (m : Running) → IsUntraced m machine.old → OnOk result
         ((after_rounds 1 m).state.trace ≡ m.state.trace ++ round_events m) }
-    ensures refused { IfErr result (λ e. e ≡ refusals.OutOfMemory) }
 {
     let mut trace = Trace::new(alloc, Vec::new(alloc));
-    run_noting(rt, machine, 1, workers, &mut trace)?;
+    of_memory(run_noting(rt, machine, 1, workers, &mut trace))?;
     let events = trace.to_vec(alloc)?;
     Ok(events)
 }

@@ -25,6 +25,7 @@ pub use note::ThreadNote;
 pub use registers::Registers;
 pub use reply::Reply;
 pub use stop_reply::{Reason, StopReply};
+pub use text::{put, put_words};
 pub use thread_list::{add_thread, begin_thread_list, end_thread_list};
 pub use window::Window;
 pub use writing::{reply_text, write_reply};

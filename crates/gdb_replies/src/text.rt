@@ -8,7 +8,7 @@ use itoa::write_digits;
 use pages::OutOfMemory;
 
 /// Adds bytes.
-pub(crate) fn put(text: &mut Vec<u8>, bytes: &[u8]) -> Result<(), OutOfMemory>
+pub fn put(text: &mut Vec<u8>, bytes: &[u8]) -> Result<(), OutOfMemory>
     ensures { OnOk result (text.new.items ≡ text.old.items ++ bytes.now) }
 {
     text.extend_from_slice(bytes)?;
@@ -55,7 +55,7 @@ pub(crate) fn put_thread(text: &mut Vec<u8>, thread: u32) -> Result<(), OutOfMem
 }
 
 /// Adds a number in decimal behind a word.
-pub(crate) fn put_words(text: &mut Vec<u8>, word: &[u8], number: u64) -> Result<(), OutOfMemory>
+pub fn put_words(text: &mut Vec<u8>, word: &[u8], number: u64) -> Result<(), OutOfMemory>
     ensures { OnOk result (text.new.items ≡ text.old.items ++ (word.now ++ decimal number)) }
 {
     put(text, word)?;

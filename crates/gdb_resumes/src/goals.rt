@@ -1,13 +1,12 @@
 //! The moments at which a user can have a run stop.
 
-ghost use Rattle.std.specs.Prelude.{◌≡◌, ◌<◌, ◌≤◌, IfOk, IfErr};
-ghost use Rattle.host_io.specs.declared.error.RunError.TheVariants as refusals;
+ghost use Rattle.std.specs.Prelude.{◌≡◌, ◌<◌, ◌≤◌, IfOk};
 ghost use Rattle.gdb_resumes.specs.Goals.{IsAtCount, IsGoalWithin, IsInRound, IsPlaceOf, goal_at_round, goal_if, is_at, is_there, place_from};
 ghost use Rattle.gdb_runs.specs.Sessions.{OfRun};
 ghost use Rattle.round_schedule.specs.Bounds.{AreWorkers};
 
 use gdb_runs::{Debugged, only_of, start_of};
-use host_io::RunError;
+use pages::OutOfMemory;
 use past_harts::{Moment, Place, Point, Side};
 use round_schedule::Phase;
 use round_steps::Told;
@@ -51,10 +50,6 @@ fn is_there(round: u64, rounds: u32) -> bool
 }
 
 /// Where a hart has done so many instructions since the run began, in a round by its number from 1 on. It may wait.
-///
-/// # Errors
-///
-/// `OutOfMemory` alone.
 pub fn goal_at_place<R: Threads + Wait + Sync>(
     rt: &R,
     alloc: Global,
@@ -62,12 +57,11 @@ pub fn goal_at_place<R: Threads + Wait + Sync>(
     round: u64,
     hart: u64,
     place: u64,
-) -> Result<Goal, RunError>
+) -> Result<Goal, OutOfMemory>
     requires workers { AreWorkers run.old.workers }
     ensures stays { run.new ≡ run.old }
     ensures goal { OfRun run.old (λ r. IfOk result (λ g. IsPlaceOf r round hart place g)) }
     ensures within { IfOk result (λ g. IsGoalWithin run.old g) }
-    ensures refused { IfErr result (λ e. e ≡ refusals.OutOfMemory) }
 {
     if !is_there(round, run.timeline.rounds()) {
         return Ok(Goal::NoRound);
@@ -86,14 +80,13 @@ fn goal_in_round<R: Threads + Wait + Sync>(
     rounds: u32,
     hart: u32,
     place: u64,
-) -> Result<Goal, RunError>
+) -> Result<Goal, OutOfMemory>
     requires workers { AreWorkers run.old.workers }
     requires within { rounds < run.old.timeline.rounds }
     requires hart { hart < run.old.harts }
     ensures stays { run.new ≡ run.old }
     ensures goal { OfRun run.old (λ r. IfOk result (λ g. IsInRound r rounds hart place g)) }
     ensures within { IfOk result (λ g. IsGoalWithin run.old g) }
-    ensures refused { IfErr result (λ e. e ≡ refusals.OutOfMemory) }
 {
     let Some(begun) = run.hart_at(rt, &start_of(rounds), hart)? else {
         return Ok(Goal::NoPlace);
@@ -113,14 +106,13 @@ fn goal_at_count<R: Threads + Wait + Sync>(
     rounds: u32,
     hart: u32,
     count: u64,
-) -> Result<Goal, RunError>
+) -> Result<Goal, OutOfMemory>
     requires workers { AreWorkers run.old.workers }
     requires within { rounds < run.old.timeline.rounds }
     requires hart { hart < run.old.harts }
     ensures stays { run.new ≡ run.old }
     ensures goal { OfRun run.old (λ r. IfOk result (λ g. IsAtCount r rounds hart count g)) }
     ensures within { IfOk result (λ g. IsGoalWithin run.old g) }
-    ensures refused { IfErr result (λ e. e ≡ refusals.OutOfMemory) }
 {
     let telling = only_of(alloc, hart);
     let from = place_from(rounds, hart, count);

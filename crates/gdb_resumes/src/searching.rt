@@ -1,7 +1,6 @@
 //! A search for what is told next, which goes on a stretch of rounds at a time.
 
-ghost use Rattle.std.specs.Prelude.{◌≡◌, ◌==◌, if◌then◌else◌, ◌≤◌, ◌<◌, ◌+◌, ◌-◌, ◌^◌, IfOk, IfErr};
-ghost use Rattle.host_io.specs.declared.error.RunError.TheVariants as refusals;
+ghost use Rattle.std.specs.Prelude.{◌≡◌, ◌==◌, if◌then◌else◌, ◌≤◌, ◌<◌, ◌+◌, ◌-◌, ◌^◌, IfOk};
 ghost use Rattle.watching.specs.declared.watchpoint.Way.TheVariants.{On, Back};
 ghost use Rattle.gdb_resumes.specs.Searches.{IsPassed, begins_at};
 ghost use Rattle.gdb_runs.specs.Ways.{rounds_at, rounds_left};
@@ -16,7 +15,7 @@ use gdb_replies::Reason;
 use gdb_runs::{
     Debugged, MOST_STEPS, Session, Standing, all_told, end_of, start_of, stretch_of, tell,
 };
-use host_io::RunError;
+use pages::OutOfMemory;
 use past_harts::{Point, Side};
 use round_steps::{Telling, Told};
 use std::alloc::Global;
@@ -61,20 +60,15 @@ pub enum Searched {
 
 impl Search {
     /// A search that begins where a session stands.
-    ///
-    /// # Errors
-    ///
-    /// `OutOfMemory` alone.
     pub fn new(
         alloc: Global,
         run: &Debugged,
         session: &Session,
         way: Way,
-    ) -> Result<Search, RunError>
+    ) -> Result<Search, OutOfMemory>
         requires ready { IsReady run.now session.now.standing }
         ensures way { IfOk result (λ x. x.reach.way ≡ way) }
         ensures search { IfOk result (λ x. IsUnderWay run.now (state_of session.now) x) }
-        ensures refused { IfErr result (λ e. e ≡ refusals.OutOfMemory) }
     {
         let telling = all_told(alloc, session, None)?;
         let reach = Reach {
@@ -86,23 +80,18 @@ impl Search {
     }
 
     /// Looks through the next rounds, so many that they come to some 4,000,000 instructions. It may wait.
-    ///
-    /// # Errors
-    ///
-    /// `OutOfMemory` alone.
     pub fn go_on<R: Threads + Wait + Sync>(
         self,
         rt: &R,
         run: &mut Debugged,
         session: &Session,
-    ) -> Result<Searched, RunError>
+    ) -> Result<Searched, OutOfMemory>
         requires ready { IsReady run.old session.now.standing }
         requires search { IsUnderWay run.old (state_of session.now) self }
         ensures stays { run.new ≡ run.old }
         ensures searches { OfRun run.old (λ r.
             IfOk result (λ x. SearchesTo r (state_of session.now) self.reach.way x)) }
         ensures searched { IfOk result (λ x. IsSearched run.old (state_of session.now) x) }
-        ensures refused { IfErr result (λ e. e ≡ refusals.OutOfMemory) }
     {
         let here = session.standing.point;
         let (found, reach) = self.reach.look_through(rt, run, &self.telling, &here)?;
@@ -159,7 +148,7 @@ impl Reach {
         run: &mut Debugged,
         telling: &Telling,
         here: &Point,
-    ) -> Result<(Option<Told>, Reach), RunError>
+    ) -> Result<(Option<Told>, Reach), OutOfMemory>
         requires workers { AreWorkers run.old.workers }
         requires few { run.old.timeline.rounds + 1 < 2 ^ 32 }
         requires within { self.rounds ≤ run.old.timeline.rounds }
@@ -169,7 +158,6 @@ impl Reach {
             IsPassed r self.way self.rounds x.1.rounds telling.now here.now x.0)) }
         ensures way { IfOk result (λ x. x.1.way ≡ self.way) }
         ensures within { IfOk result (λ x. x.1.rounds ≤ run.old.timeline.rounds) }
-        ensures refused { IfErr result (λ e. e ≡ refusals.OutOfMemory) }
     {
         let mut search = self;
         let mut steps: u64 = 0;
@@ -216,7 +204,7 @@ impl Reach {
         telling: &Telling,
         here: &Point,
         count: u32,
-    ) -> Result<Option<Told>, RunError>
+    ) -> Result<Option<Told>, OutOfMemory>
         requires workers { AreWorkers run.old.workers }
         requires within { self.rounds ≤ run.old.timeline.rounds }
         requires left { count ≤ rounds_left self.way run.old.timeline.rounds self.rounds }
@@ -225,7 +213,6 @@ impl Reach {
             IfOk result (λ x.
             IsPassed r self.way self.rounds (rounds_at self.way self.rounds count) telling.now
             here.now x)) }
-        ensures refused { IfErr result (λ e. e ≡ refusals.OutOfMemory) }
     {
         let rounds = self.rounds;
         match self.way {
@@ -274,13 +261,12 @@ fn look_on<R: Threads + Wait + Sync>(
     here: &Point,
     rounds: u32,
     count: u32,
-) -> Result<Option<Told>, RunError>
+) -> Result<Option<Told>, OutOfMemory>
     requires workers { AreWorkers run.old.workers }
     requires within { rounds + count ≤ run.old.timeline.rounds }
     ensures stays { run.new ≡ run.old }
     ensures passed { OfRun run.old (λ r. IfOk result (λ x.
         IsPassed r On rounds (rounds + count) telling.now here.now x)) }
-    ensures refused { IfErr result (λ e. e ≡ refusals.OutOfMemory) }
 {
     let workers = run.workers;
     run.timeline
@@ -295,14 +281,13 @@ fn look_back<R: Threads + Wait + Sync>(
     here: &Point,
     rounds: u32,
     count: u32,
-) -> Result<Option<Told>, RunError>
+) -> Result<Option<Told>, OutOfMemory>
     requires workers { AreWorkers run.old.workers }
     requires within { rounds ≤ run.old.timeline.rounds }
     requires left { count ≤ rounds }
     ensures stays { run.new ≡ run.old }
     ensures passed { OfRun run.old (λ r. IfOk result (λ x.
         IsPassed r Back rounds (rounds - count) telling.now here.now x)) }
-    ensures refused { IfErr result (λ e. e ≡ refusals.OutOfMemory) }
 {
     let workers = run.workers;
     let begin = rounds - count;

@@ -1,5 +1,5 @@
 -- A debugger's session with a recorded run.
-use Rattle.std.specs.Prelude.{◌≡◌, ℕ, ◌+◌, ◌<◌, ◌≤◌, ◌^◌, Bool, true, false, if◌then◌else◌, List, ◌++◌, length, slice_get, Option, Some, None, option_map, is_some, IfSome}
+use Rattle.std.specs.Prelude.{◌≡◌, ℕ, ◌+◌, ◌<◌, ◌≤◌, ◌^◌, Bool, true, false, if◌then◌else◌, List, ◌++◌, length, slice_get, Option, Some, None, option_map, IfSome}
 use Rattle.round_schedule.specs.declared.bounds.TheConstants.{MOST_HARTS}
 use Rattle.hart_step.specs.declared.hart.Hart.{Hart}
 use Rattle.machine.specs.Machine.{Running}
@@ -14,9 +14,8 @@ use Rattle.past_harts.specs.Moments.{moment_in, place_in}
 use Rattle.watching.specs.declared.watchpoint.WatchKind.{WatchKind}
 use Rattle.watching.specs.declared.watchpoint.WatchKind.TheVariants.{Changes, Reads, Accesses}
 use Rattle.watching.specs.declared.watchpoint.Watchpoint.{Watchpoint}
-use Rattle.moments.specs.Stops.{is_one_of}
 use Rattle.gdb_replies.specs.declared.stop_reply.Reason.{Reason}
-use Rattle.gdb_replies.specs.declared.stop_reply.Reason.TheVariants.{AccessWatch, HardwareBreakpoint, ReadWatch, Step, Watch}
+use Rattle.gdb_replies.specs.declared.stop_reply.Reason.TheVariants.{AccessWatch, ReadWatch, Step, Watch}
 use Rattle.gdb_talk.specs.Told.{reason_of}
 use Rattle.timelines.specs.Shown.{seen}
 use Rattle.gdb_runs.specs.declared.debugged.Debugged.{Debugged}
@@ -90,20 +89,10 @@ hart_of s = s.hart
 abbrev pub hart_seen : Running → Point → ℕ → Option Hart
 hart_seen m at i = option_map hart_of (seen m at i)
 
--- there is no step of a hart that has stopped, nor of one that isn't there
-abbrev pub is_stopped : Option Hart → Bool
-is_stopped None = true
-is_stopped (Some h) = is_some h.stop
-
 -- why one stands at a hart, where software and hardware breakpoints are at these addresses
-abbrev pub or_hardware : Reason → Bool → Reason
-or_hardware Step true = HardwareBreakpoint
-or_hardware Step false = Step
-or_hardware r b = r
-
 abbrev pub why : List ℕ → List ℕ → Option Hart → Reason
 why software hardware None = Step
-why software hardware (Some h) = or_hardware (reason_of software h) (is_one_of hardware h.pc)
+why software hardware (Some h) = reason_of software hardware h
 
 -- a watchpoint is named by its kind and its own address
 abbrev pub watch_reason : WatchKind → ℕ → Reason

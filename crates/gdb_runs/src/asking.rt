@@ -1,16 +1,14 @@
 //! What is asked for, and the nearest point at which it is told.
 
-ghost use Rattle.std.specs.Prelude.{◌≡◌, ◌≤◌, length, Some, IfOk, IfErr, IfSome};
+ghost use Rattle.std.specs.Prelude.{◌≡◌, ◌≤◌, length, Some, IfOk, IfSome};
 ghost use Rattle.machine.specs.Machine.{Running};
 ghost use Rattle.machine.specs.Untraced.{IsUntraced};
-ghost use Rattle.host_io.specs.declared.error.RunError.TheVariants as refusals;
 ghost use Rattle.gdb_runs.specs.Wanted.{AsksFor, Finds, Wanted, all_told, nearest_of, only_of, watched_of};
 ghost use Rattle.gdb_runs.specs.Sessions.{IsWithin, OfRun, state_of};
 ghost use Rattle.round_schedule.specs.Bounds.{AreWorkers};
 
 use crate::debugged::Debugged;
 use crate::session::Session;
-use host_io::RunError;
 use pages::OutOfMemory;
 use past_harts::Point;
 use round_steps::{Asked, Telling, Told};
@@ -20,10 +18,6 @@ use std::thread::Threads;
 use watching::Way;
 
 /// All that is told in a session, and each moment of a hart beside.
-///
-/// # Errors
-///
-/// `OutOfMemory` alone.
 pub fn all_told(alloc: Global, session: &Session, each: Option<u32>) -> Result<Telling, OutOfMemory>
     ensures { IfOk result (λ t. AsksFor (all_told (state_of session.now) each) t) }
 {
@@ -41,10 +35,6 @@ pub fn all_told(alloc: Global, session: &Session, each: Option<u32>) -> Result<T
 }
 
 /// The moments of a hart, and what watchpoints tell of.
-///
-/// # Errors
-///
-/// `OutOfMemory` alone.
 pub fn watched_of(alloc: Global, session: &Session, hart: u32) -> Result<Telling, OutOfMemory>
     ensures { IfOk result (λ t. AsksFor (watched_of (state_of session.now) hart) t) }
 {
@@ -68,17 +58,13 @@ pub fn only_of(alloc: Global, hart: u32) -> Telling
 }
 
 /// The nearest point at which this is told, one way. It may wait.
-///
-/// # Errors
-///
-/// `OutOfMemory` alone.
 pub fn find<R: Threads + Wait + Sync>(
     rt: &R,
     run: &mut Debugged,
     way: Way,
     telling: Telling,
     from: &Point,
-) -> Result<Option<Told>, RunError>
+) -> Result<Option<Told>, OutOfMemory>
     requires within { from.now.moment.rounds ≤ run.old.timeline.rounds }
     requires workers { AreWorkers run.old.workers }
     requires start { run.old.start ≡ run.old.timeline.start }
@@ -89,7 +75,6 @@ pub fn find<R: Threads + Wait + Sync>(
     ensures finds { OfRun run.old (λ r. (w : Wanted) → AsksFor w telling →
         IfOk result (λ x. Finds r way w from.now x)) }
     ensures within { IfOk result (λ x. IfSome x (λ told. IsWithin run.old told.point)) }
-    ensures refused { IfErr result (λ e. e ≡ refusals.OutOfMemory) }
 {
     let found = nearest(rt, run, way, &telling, from);
     drop(telling);
@@ -103,13 +88,12 @@ fn nearest<R: Threads + Wait + Sync>(
     way: Way,
     telling: &Telling,
     from: &Point,
-) -> Result<Option<Told>, RunError>
+) -> Result<Option<Told>, OutOfMemory>
     requires within { from.now.moment.rounds ≤ run.old.timeline.rounds }
     requires workers { AreWorkers run.old.workers }
     ensures stays { run.new ≡ run.old }
     ensures nearest { OfRun run.old (λ r. IfOk result (λ x.
         x ≡ nearest_of r way telling.now from.now)) }
-    ensures refused { IfErr result (λ e. e ≡ refusals.OutOfMemory) }
 {
     match way {
         Way::On => run.timeline.next_point(rt, telling, from, run.workers),

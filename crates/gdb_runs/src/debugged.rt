@@ -1,5 +1,4 @@
-ghost use Rattle.std.specs.Prelude.{◌≡◌, ◌≤◌, ◌<◌, ◌+◌, ◌^◌, length, if◌then◌else◌, IfOk, IfErr, Some, None};
-ghost use Rattle.host_io.specs.declared.error.RunError.TheVariants as refusals;
+ghost use Rattle.std.specs.Prelude.{◌≡◌, ◌≤◌, ◌<◌, ◌+◌, ◌^◌, length, if◌then◌else◌, IfOk, Some, None};
 ghost use Rattle.machine.specs.Machine.{Running};
 ghost use Rattle.machine.specs.Untraced.{IsUntraced};
 ghost use Rattle.std.specs.Option.{option_map};
@@ -7,13 +6,12 @@ ghost use Rattle.gdb_runs.specs.Sessions.{OfRun, hart_seen, image_of};
 ghost use Rattle.round_schedule.specs.Bounds.{AreWorkers};
 
 use hart_step::Hart;
-use host_io::RunError;
 use machine::UntracedMachine;
-use pages::Range;
+use pages::{OutOfMemory, Range};
 use past_harts::Point;
 use std::sync::Wait;
 use std::thread::Threads;
-use timelines::Timeline;
+use timelines::{Timeline, of_memory};
 
 /// A recorded run that a debugger looks at.
 pub struct Debugged {
@@ -51,10 +49,6 @@ impl Drop for Debugged {
 impl Debugged {
     /// So many rounds of the run of a machine before its first one, which has this code. A debugger is
     /// handed the image, or isn't.
-    ///
-    /// # Errors
-    ///
-    /// `OutOfMemory` alone.
     pub fn new(
         mut machine: UntracedMachine,
         code: Vec<Range>,
@@ -62,7 +56,7 @@ impl Debugged {
         workers: u32,
         image: Vec<u8>,
         hands_image: bool,
-    ) -> Result<Debugged, RunError>
+    ) -> Result<Debugged, OutOfMemory>
         requires run { (m : Running) × IsUntraced m machine }
         requires fresh { machine.rounds ≡ 0 }
         requires code { (m : Running) → IsUntraced m machine → m.code ≡ code.items }
@@ -74,7 +68,6 @@ impl Debugged {
         ensures machine { IfOk result (λ d. d.start ≡ machine) }
         ensures image { IfOk result (λ d. image_of d
             ≡ (if hands_image then Some image.items else None)) }
-        ensures refused { IfErr result (λ e. e ≡ refusals.OutOfMemory) }
     {
         // At most 64, as many as the plan says.
         let _harts = machine.plan().harts();
@@ -104,22 +97,17 @@ impl Debugged {
     }
 
     /// A hart at a point; none where there is no such hart or moment. It may wait.
-    ///
-    /// # Errors
-    ///
-    /// `OutOfMemory` alone.
     pub fn hart_at<R: Threads + Wait + Sync>(
         &mut self,
         rt: &R,
         point: &Point,
         number: u32,
-    ) -> Result<Option<Hart>, RunError>
+    ) -> Result<Option<Hart>, OutOfMemory>
         requires within { point.now.moment.rounds ≤ self.old.timeline.rounds }
         requires workers { AreWorkers self.old.workers }
         ensures stays { self.new ≡ self.old }
         ensures hart { OfRun self.old (λ r.
             IfOk result (λ h. h ≡ hart_seen r.run point.now number)) }
-        ensures refused { IfErr result (λ e. e ≡ refusals.OutOfMemory) }
     {
         match self.timeline.shown_at(rt, point, number, self.workers)? {
             Some(sight) => Ok(Some(sight.hart())),
@@ -133,7 +121,7 @@ fn timeline_of(
     machine: &mut UntracedMachine,
     code: Vec<Range>,
     rounds: u32,
-) -> Result<Timeline, RunError>
+) -> Result<Timeline, OutOfMemory>
     requires run { (m : Running) × IsUntraced m machine.old }
     requires fresh { machine.old.rounds ≡ 0 }
     requires code { (m : Running) → IsUntraced m machine.old → m.code ≡ code.items }
@@ -141,8 +129,7 @@ fn timeline_of(
     ensures stays { machine.new ≡ machine.old }
     ensures start { IfOk result (λ t. t.start ≡ machine.old) }
     ensures rounds { IfOk result (λ t. t.rounds ≡ rounds) }
-    ensures refused { IfErr result (λ e. e ≡ refusals.OutOfMemory) }
 {
-    let start = machine.share()?;
+    let start = of_memory(machine.share())?;
     Timeline::new(start, code, rounds)
 }

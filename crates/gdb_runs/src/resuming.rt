@@ -1,17 +1,15 @@
 //! Where a run stands at what is told next.
 
-ghost use Rattle.std.specs.Prelude.{◌≡◌, IfOk, IfErr, slice_get};
-ghost use Rattle.host_io.specs.declared.error.RunError.TheVariants as refusals;
-ghost use Rattle.gdb_replies.specs.declared.stop_reply.Reason.TheVariants.{Step};
+ghost use Rattle.std.specs.Prelude.{◌≡◌, IfOk, slice_get};
 ghost use Rattle.gdb_runs.specs.Standings.{end_of, told_at};
-ghost use Rattle.gdb_runs.specs.Sessions.{IsReady, IsWithin, OfRun, named, or_hardware, state_of, watch_reason, why, why_told};
+ghost use Rattle.gdb_runs.specs.Sessions.{IsReady, IsWithin, OfRun, named, state_of, watch_reason, why, why_told};
 
 use crate::debugged::Debugged;
 use crate::session::{Session, Standing, start_of};
 use gdb_replies::Reason;
 use gdb_talk::reason_of;
 use hart_step::Hart;
-use host_io::RunError;
+use pages::OutOfMemory;
 use round_steps::{Told, WatchKind, Watchpoint};
 use std::sync::Wait;
 use std::thread::Threads;
@@ -30,23 +28,18 @@ pub fn end_of(run: &Debugged, standing: Standing, way: Way) -> Standing
 }
 
 /// Where it stands at what is told. It may wait.
-///
-/// # Errors
-///
-/// `OutOfMemory` alone.
 pub fn tell<R: Threads + Wait + Sync>(
     rt: &R,
     run: &mut Debugged,
     session: &Session,
     told: Told,
-) -> Result<Standing, RunError>
+) -> Result<Standing, OutOfMemory>
     requires ready { IsReady run.old session.now.standing }
     requires within { IsWithin run.old told.point }
     ensures stays { run.new ≡ run.old }
     ensures standing { OfRun run.old (λ r.
         IfOk result (λ t. t ≡ told_at r (state_of session.now) told)) }
     ensures ready { IfOk result (λ t. IsReady run.old t) }
-    ensures refused { IfErr result (λ e. e ≡ refusals.OutOfMemory) }
 {
     let number = told.point.moment.place.hart;
     let there = run.hart_at(rt, &told.point, number)?;
@@ -90,28 +83,7 @@ pub fn why(software: &[u64], hardware: &[u64], hart: Option<Hart>) -> Reason
     ensures { result ≡ why software.now hardware.now hart }
 {
     match hart {
-        Some(hart) => or_hardware(reason_of(software, &hart), hardware.contains(&hart.pc)),
+        Some(hart) => reason_of(software, hardware, &hart),
         None => Reason::Step,
-    }
-}
-
-/// The same reason, or that of a hardware breakpoint in place of a step's end.
-fn or_hardware(reason: Reason, is_hardware: bool) -> Reason
-    ensures { result ≡ or_hardware reason is_hardware }
-{
-    match reason {
-        Reason::Step => hardware_or_step(is_hardware),
-        other => other,
-    }
-}
-
-/// Why one stands where no fault and no software breakpoint is.
-fn hardware_or_step(is_hardware: bool) -> Reason
-    ensures { result ≡ or_hardware Step is_hardware }
-{
-    if is_hardware {
-        Reason::HardwareBreakpoint
-    } else {
-        Reason::Step
     }
 }

@@ -1,5 +1,4 @@
 pub mod Arriving
-pub mod Going
 pub mod Refusing
 pub mod Resuming
 pub mod Wanting

@@ -1,5 +1,5 @@
 -- Where the next run is to stop, when the user has said so.
-use Rattle.std.proofs.Common.{◌≡◌, ℕ, ◌<◌, List, ◌++◌, Bool, true, false, Option, Some, None, refl, sym, ap, subst}
+use Rattle.std.proofs.Common.{◌≡◌, ℕ, ◌<◌, List, Bool, true, false, Option, Some, None, sym, ap, subst}
 use Rattle.std.specs.Prelude.{IfSome, ◌||◌, if◌then◌else◌}
 use Rattle.hex.specs.Hex.{encode_lower}
 use Rattle.gdb_packets.specs.Writing.{packet_text}
@@ -14,7 +14,7 @@ use Rattle.gdb_resumes.specs.declared.goals.Goal.TheVariants as goals
 use Rattle.gdb_runs.specs.declared.session.Standing.{Standing}
 use Rattle.gdb_resumes.specs.Goals.{IsGoalWithin}
 use Rattle.gdb_runs.specs.Sessions.{IsReady, Recorded, State}
-use Rattle.gdb_session.specs.Answers.{Answered, AnswersBy, GoesTo, IsGoal, Sets, command_text, goal_text, goal_then, is_goto, is_hits, or_else, with_goal}
+use Rattle.gdb_session.specs.Answers.{Answers, AnswersBy, GoesTo, IsGoal, Sets, command_text, goal_text, goal_then, is_goto, is_hits, or_else, with_goal}
 
 abbrev pub IsThere : Debugged → Point → Type 0
 IsThere d at = (at.moment.rounds < d.timeline.rounds) × (at.moment.place.hart < d.harts)
@@ -64,15 +64,14 @@ goal_set r s commands.Help written t e x = x
 goal_set r s commands.Unknown written t e x = x
 
 -- and that is what the user is answered
-pub goes_to : (r : Recorded) (s : State) (command : Command) (goal : Goal) (then' : Option Point) (took took_then : List ℕ) → is_goto command ≡ true → IsGoal r command goal →
-    then' ≡ goal_then s.standing goal → took_then ≡ took ++ packet_text (encode_lower (goal_text r s.standing goal)) →
-    Answered r s (requests.Command command) took took_then (with_goal s then')
-goes_to r s command goal then' took took_then goes is so wrote =
-    let written = packet_text (encode_lower (goal_text r s.standing goal)) in
+pub goes_to : (r : Recorded) (s : State) (command : Command) (goal : Goal) (then' : Option Point) (written : List ℕ) → is_goto command ≡ true → IsGoal r command goal →
+    then' ≡ goal_then s.standing goal → written ≡ packet_text (encode_lower (goal_text r s.standing goal)) →
+    Answers r s (requests.Command command) written (with_goal s then')
+goes_to r s command goal then' written goes is so wrote =
     let there : GoesTo r s command written (with_goal s then') = record {
       goal = goal;
       is = is;
-      says = (refl, ap (with_goal s) so);
+      says = (wrote, ap (with_goal s) so);
     } in
     let A : Bool → Type 0 = λ b. AnswersBy (or_else None (if b || is_hits command then None else Some (command_text r s.standing command))) r s (requests.Command command) written (with_goal s then') in
-    record { written = written; answers = subst A (sym goes) (goal_set r s command written (with_goal s then') goes there); wrote = wrote }
+    subst A (sym goes) (goal_set r s command written (with_goal s then') goes there)

@@ -16,6 +16,7 @@ use Rattle.gdb_packets.specs.declared.request.Request.TheVariants as requests
 use Rattle.gdb_packets.specs.declared.request.Watch.{Watch}
 use Rattle.gdb_packets.specs.declared.request.Watch.TheVariants as asked
 use Rattle.gdb_talk.specs.Stops.{with_one, without_one}
+use Rattle.gdb_talk.specs.Told.{done_if, hart_of_thread}
 use Rattle.gdb_replies.specs.Description.{target_text}
 use Rattle.gdb_replies.specs.CommandTexts.{ahead_text, behind_text, elsewhere_text, harts_text, help_text, here_text, hits_text, rounds_text}
 use Rattle.gdb_replies.specs.Replies.{features_text, part_of, payload_of}
@@ -42,14 +43,6 @@ use Rattle.gdb_resumes.specs.Goals.{IsPlaceOf, goal_at_round}
 use Rattle.gdb_runs.specs.Sessions.{Recorded, State}
 use Rattle.gdb_resumes.specs.Resumes.{Continues}
 use Rattle.gdb_steps.specs.Steps.{Steps, StepsAlone, StepsBack, StepsIn}
-
--- threads are numbered from 1
-abbrev pub hart_of_thread : ℕ → ℕ → Option ℕ
-hart_of_thread harts thread = if thread == 0 || nat_lt harts thread then None else Some (thread - 1)
-
-abbrev pub done_or_missing : Option ℕ → List ℕ
-done_or_missing None = codes "E01"
-done_or_missing (Some hart) = codes "OK"
 
 -- ---- requests that change nothing
 
@@ -114,7 +107,7 @@ abbrev pub text_at : Recorded → Standing → Request → Option (List ℕ)
 text_at r t requests.WhyStopped = Some (stands_text r t)
 text_at r t (requests.ThreadList offset count) = Some (thread_list_answer r.run t.point r.harts offset count)
 text_at r t (requests.Note thread) = Some (note_text_of r t (hart_of_thread r.harts thread))
-text_at r t (requests.IsAlive thread) = Some (done_or_missing (hart_of_thread r.harts thread))
+text_at r t (requests.IsAlive thread) = Some (done_if (is_some (hart_of_thread r.harts thread)))
 text_at r t requests.ReadRegisters = Some (registers_answer t.point.moment (seen r.run t.point t.general))
 text_at r t (requests.ReadRegister number) = Some (register_answer number t.point.moment (seen r.run t.point t.general))
 text_at r t (requests.ReadMemory address count) = Some (memory_answer address count (seen r.run t.point t.general))
@@ -129,11 +122,11 @@ or_else (Some x) y = Some x
 abbrev pub reply_at : Recorded → Standing → Request → Option (List ℕ)
 reply_at r t request = or_else (fixed_text r.harts r.image t request) (text_at r t request)
 
--- the reply to such a request was written
-pub record Replied (r : Recorded) (t : Standing) (request : Request) (took took_then : List ℕ) : Type 0 where
+-- this is the reply to such a request
+pub record Replied (r : Recorded) (t : Standing) (request : Request) (written : List ℕ) : Type 0 where
   pub said : List ℕ
   pub is : reply_at r t request ≡ Some said
-  pub wrote : took_then ≡ took ++ packet_text said
+  pub wrote : written ≡ packet_text said
 
 -- ---- requests that change the session
 
@@ -150,7 +143,7 @@ abbrev pub SelectsGeneral : Recorded → State → Option ℕ → List ℕ → S
 SelectsGeneral r s None written t = Says (codes "OK") s written t
 SelectsGeneral r s (Some thread) written t =
     let hart = hart_of_thread r.harts thread in
-    Says (done_or_missing hart) (selects_general s hart) written t
+    Says (done_if (is_some hart)) (selects_general s hart) written t
 
 -- and which hart is to step back alone
 abbrev pub moves_alone : State → Option ℕ → State
@@ -288,9 +281,3 @@ AnswersBy (Some said) r s request written t = Says said s written t
 -- what is written, and the session then
 abbrev pub Answers : Recorded → State → Request → List ℕ → State → Type 0
 Answers r s request written t = AnswersBy (reply_at r s.standing request) r s request written t
-
--- it is behind what was written before
-pub record Answered (r : Recorded) (s : State) (request : Request) (took took_then : List ℕ) (t : State) : Type 0 where
-  pub written : List ℕ
-  pub answers : Answers r s request written t
-  pub wrote : took_then ≡ took ++ written

@@ -1,22 +1,19 @@
 //! Where the user wants the next run to stop.
 
-ghost use Rattle.std.specs.Prelude.{◌≡◌, ◌≤◌, ◌++◌, Err, IfErr, IfOk, OnOk, true};
-ghost use Rattle.host_io.specs.declared.error.RunError.TheVariants as refusals;
+ghost use Rattle.std.specs.Prelude.{◌≡◌, ◌≤◌, IfOk, OnErr, true};
 ghost use Rattle.hex.specs.Hex.{encode_lower};
-ghost use Rattle.host_io.specs.Taken.{WritesText};
 ghost use Rattle.gdb_packets.specs.Writing.{packet_text};
 ghost use Rattle.gdb_replies.specs.CommandTexts.{harts_text, rounds_text};
 ghost use Rattle.gdb_packets.specs.declared.request.Request.TheVariants as requests;
 ghost use Rattle.gdb_resumes.specs.Goals.{IsGoalWithin};
 ghost use Rattle.gdb_runs.specs.Sessions.{IsReady, OfRun, state_of};
-ghost use Rattle.gdb_session.specs.Answers.{Answered, IsGoal, goal_text, goal_then, is_goto, side_text};
+ghost use Rattle.gdb_session.specs.Answers.{Answers, IsGoal, goal_text, goal_then, is_goto, side_text};
 ghost use Rattle.round_schedule.specs.Bounds.{AreWorkers};
 
 use gdb_packets::Command;
-use gdb_replies::{Reply, add_harts_line, add_rounds_line, write_reply};
+use gdb_replies::{Reply, add_harts_line, add_rounds_line, reply_text};
 use gdb_resumes::{Goal, goal_at_place, goal_at_round};
 use gdb_runs::{Debugged, Session, Standing};
-use host_io::{RunError, Sink};
 use pages::OutOfMemory;
 use past_harts::Point;
 use std::alloc::Global;
@@ -36,28 +33,25 @@ const HERE: &[u8] = b"the run stands there\n";
 const ELSEWHERE: &[u8] = b"the hart is not there in that round\n";
 
 /// Has the next run that goes on or back stop once where a command says, and says which way leads there. It may wait.
-pub(crate) fn go_to<R: Threads + Wait + Sync, K: Sink>(
+pub(crate) fn go_to<R: Threads + Wait + Sync>(
     rt: &R,
     alloc: Global,
     run: &mut Debugged,
     session: &mut Session,
     command: Command,
-    out: &mut K,
-) -> Result<(), RunError>
+) -> Result<Vec<u8>, OutOfMemory>
     requires ready { IsReady run.old session.old.standing }
     requires goes { is_goto command ≡ true }
     ensures stays { run.new ≡ run.old }
     ensures ready { IsReady run.old session.new.standing }
-    ensures answers { OfRun run.old (λ r.
-        OnOk result (Answered r (state_of session.old) (requests.Command command)
-        (K.took out.old) (K.took out.new) (state_of session.new))) }
-    ensures refused { result ≡ Err refusals.OutOfMemory →
-        (K.took out.new ≡ K.took out.old) × (state_of session.new ≡ state_of session.old) }
+    ensures answers { OfRun run.old (λ r. IfOk result (λ text. Answers r (state_of session.old)
+        (requests.Command command) text.items (state_of session.new))) }
+    ensures refused { OnErr result (state_of session.new ≡ state_of session.old) }
 {
     let goal = goal_of(rt, alloc, run, command)?;
-    say_goal(alloc, run, session.standing, goal, out)?;
+    let text = goal_text(alloc, run, session.standing, goal)?;
     session.standing.goal = goal_then(session.standing, goal);
-    Ok(())
+    Ok(text)
 }
 
 /// Where that is.
@@ -66,64 +60,46 @@ fn goal_of<R: Threads + Wait + Sync>(
     alloc: Global,
     run: &mut Debugged,
     command: Command,
-) -> Result<Goal, RunError>
+) -> Result<Goal, OutOfMemory>
     requires workers { AreWorkers run.old.workers }
     requires harts { 1 ≤ run.old.harts }
     ensures stays { run.new ≡ run.old }
     ensures goal { OfRun run.old (λ r. IfOk result (λ goal. IsGoal r command goal)) }
     ensures within { IfOk result (λ goal. IsGoalWithin run.old goal) }
-    ensures refused { IfErr result (λ e. e ≡ refusals.OutOfMemory) }
 {
     match command {
         Command::GotoRound(round) => Ok(goal_at_round(run, round)),
         Command::GotoPlace(round, hart, place) => goal_at_place(rt, alloc, run, round, hart, place),
         Command::GotoEnd => Ok(Goal::End),
         // No other command says where.
-        _ => Err(RunError::OutOfMemory),
+        _ => Err(OutOfMemory),
     }
 }
 
 /// Says which way leads there, or that none does.
-fn say_goal<K: Sink>(
+fn goal_text(
     alloc: Global,
     run: &Debugged,
     standing: Standing,
     goal: Goal,
-    out: &mut K,
-) -> Result<(), RunError>
-    ensures writes { OfRun run.now (λ r. OnOk result
-        (K.took out.new ≡ K.took out.old ++ packet_text
-        (encode_lower (goal_text r standing goal)))) }
-    ensures memory { result ≡ Err refusals.OutOfMemory → K.took out.new ≡ K.took out.old }
+) -> Result<Vec<u8>, OutOfMemory>
+    ensures { OfRun run.now (λ r. IfOk result (λ text.
+        text.items ≡ packet_text (encode_lower (goal_text r standing goal)))) }
 {
     let here = standing.point.moment;
     match goal {
-        Goal::At(at) => say_side(
-            alloc,
-            here.is_same(&at.moment),
-            here.is_before(&at.moment),
-            out,
-        ),
-        Goal::End => say_side(alloc, run.timeline.rounds() <= here.rounds, true, out),
-        Goal::NoRound => say_rounds(alloc, run.timeline.rounds(), out),
-        Goal::NoHart => say_harts(alloc, run.harts, out),
-        Goal::NoPlace => say(alloc, ELSEWHERE, out),
+        Goal::At(at) => {
+            let (is_here, is_ahead) = (here.is_same(&at.moment), here.is_before(&at.moment));
+            say(alloc, side_text(is_here, is_ahead))
+        }
+        Goal::End => {
+            let is_here = run.timeline.rounds() <= here.rounds;
+            say(alloc, side_text(is_here, true))
+        }
+        Goal::NoRound => say_rounds(alloc, run.timeline.rounds()),
+        Goal::NoHart => say_harts(alloc, run.harts),
+        Goal::NoPlace => say(alloc, ELSEWHERE),
     }
-}
-
-/// Says that the run stands there, or which way leads there.
-fn say_side<K: Sink>(
-    alloc: Global,
-    is_here: bool,
-    is_ahead: bool,
-    out: &mut K,
-) -> Result<(), RunError>
-    ensures writes { WritesText (packet_text (encode_lower (side_text is_here is_ahead)))
-        (K.took out.old)
-        (K.failures out.old) result (K.took out.new) (K.failures out.new) }
-    ensures memory { result ≡ Err refusals.OutOfMemory → K.took out.new ≡ K.took out.old }
-{
-    say(alloc, side_text(is_here, is_ahead), out)
 }
 
 fn side_text(is_here: bool, is_ahead: bool) -> &'static [u8]
@@ -139,48 +115,28 @@ fn side_text(is_here: bool, is_ahead: bool) -> &'static [u8]
 }
 
 /// Says how many rounds there are.
-fn say_rounds<K: Sink>(alloc: Global, rounds: u32, out: &mut K) -> Result<(), RunError>
-    ensures writes { WritesText (packet_text (encode_lower (rounds_text rounds))) (K.took out.old)
-        (K.failures out.old) result (K.took out.new) (K.failures out.new) }
-    ensures memory { result ≡ Err refusals.OutOfMemory → K.took out.new ≡ K.took out.old }
-{
-    let text = rounds_line(alloc, rounds)?;
-    say(alloc, text.as_slice(), out)
-}
-
-fn rounds_line(alloc: Global, rounds: u32) -> Result<Vec<u8>, OutOfMemory>
-    ensures { IfOk result (λ text. text.items ≡ rounds_text rounds) }
+fn say_rounds(alloc: Global, rounds: u32) -> Result<Vec<u8>, OutOfMemory>
+    ensures { IfOk result (λ text. text.items ≡ packet_text (encode_lower (rounds_text rounds))) }
 {
     let mut text = Vec::new(alloc);
     add_rounds_line(&mut text, rounds)?;
-    Ok(text)
+    say(alloc, text.as_slice())
 }
 
 /// Says how many harts there are.
-fn say_harts<K: Sink>(alloc: Global, harts: u32, out: &mut K) -> Result<(), RunError>
-    ensures writes { WritesText (packet_text (encode_lower (harts_text harts))) (K.took out.old)
-        (K.failures out.old) result (K.took out.new) (K.failures out.new) }
-    ensures memory { result ≡ Err refusals.OutOfMemory → K.took out.new ≡ K.took out.old }
-{
-    let text = harts_line(alloc, harts)?;
-    say(alloc, text.as_slice(), out)
-}
-
-fn harts_line(alloc: Global, harts: u32) -> Result<Vec<u8>, OutOfMemory>
-    ensures { IfOk result (λ text. text.items ≡ harts_text harts) }
+fn say_harts(alloc: Global, harts: u32) -> Result<Vec<u8>, OutOfMemory>
+    ensures { IfOk result (λ text. text.items ≡ packet_text (encode_lower (harts_text harts))) }
 {
     let mut text = Vec::new(alloc);
     add_harts_line(&mut text, harts)?;
-    Ok(text)
+    say(alloc, text.as_slice())
 }
 
 /// Answers the user with some words.
-fn say<K: Sink>(alloc: Global, words: &[u8], out: &mut K) -> Result<(), RunError>
-    ensures writes { WritesText (packet_text (encode_lower words.now)) (K.took out.old)
-        (K.failures out.old) result (K.took out.new) (K.failures out.new) }
-    ensures memory { result ≡ Err refusals.OutOfMemory → K.took out.new ≡ K.took out.old }
+fn say(alloc: Global, words: &[u8]) -> Result<Vec<u8>, OutOfMemory>
+    ensures { IfOk result (λ text. text.items ≡ packet_text (encode_lower words.now)) }
 {
-    write_reply(alloc, &Reply::Words(words), out)
+    reply_text(alloc, &Reply::Words(words))
 }
 
 /// Where the next run is to stop once then.

@@ -1,16 +1,14 @@
 //! Whether stops at watchpoints tell the access.
 
-ghost use Rattle.std.specs.Prelude.{◌≡◌, ◌++◌, Err, OnOk};
-ghost use Rattle.host_io.specs.declared.error.RunError.TheVariants as refusals;
+ghost use Rattle.std.specs.Prelude.{◌≡◌, IfOk, OnErr};
 ghost use Rattle.hex.specs.Hex.{encode_lower};
-ghost use Rattle.gdb_packets.specs.Writing.{packet_text};
 ghost use Rattle.gdb_replies.specs.CommandTexts.{hits_text};
 ghost use Rattle.gdb_runs.specs.Sessions.{IsReady, state_of};
-ghost use Rattle.gdb_session.specs.Answers.{with_hits};
+ghost use Rattle.gdb_session.specs.Answers.{Says, with_hits};
 
-use gdb_replies::{Reply, write_reply};
+use gdb_replies::{Reply, reply_text};
 use gdb_runs::{Debugged, Session};
-use host_io::{RunError, Sink};
+use pages::OutOfMemory;
 use std::alloc::Global;
 
 /// What is said where they do from now on.
@@ -20,24 +18,21 @@ const ON: &[u8] = b"each stop at a watchpoint tells the access\n";
 const OFF: &[u8] = b"stops at watchpoints tell no access\n";
 
 /// Has stops at watchpoints tell the access from now on, or no longer, and says so.
-pub(crate) fn set_hits<K: Sink>(
+pub(crate) fn set_hits(
     alloc: Global,
     run: &Debugged,
     session: &mut Session,
     on: bool,
-    out: &mut K,
-) -> Result<(), RunError>
+) -> Result<Vec<u8>, OutOfMemory>
     requires ready { IsReady run.now session.old.standing }
     ensures ready { IsReady run.now session.new.standing }
-    ensures session { OnOk result (state_of session.new ≡ with_hits (state_of session.old) on) }
-    ensures writes { OnOk result (K.took out.new ≡ K.took out.old
-        ++ packet_text (encode_lower (hits_text on))) }
-    ensures refused { result ≡ Err refusals.OutOfMemory →
-        (K.took out.new ≡ K.took out.old) × (state_of session.new ≡ state_of session.old) }
+    ensures says { IfOk result (λ text. Says (encode_lower (hits_text on))
+        (with_hits (state_of session.old) on) text.items (state_of session.new)) }
+    ensures refused { OnErr result (state_of session.new ≡ state_of session.old) }
 {
-    write_reply(alloc, &Reply::Words(hits_text(on)), out)?;
+    let text = reply_text(alloc, &Reply::Words(hits_text(on)))?;
     session.standing.hits = on;
-    Ok(())
+    Ok(text)
 }
 
 /// What is said.

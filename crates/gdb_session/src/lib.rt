@@ -6,8 +6,6 @@ mod goto;
 mod hits;
 mod opening;
 mod reading;
-mod searching;
-mod selecting;
 mod serving;
 mod talk;
 mod watchpoints;

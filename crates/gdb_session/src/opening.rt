@@ -46,7 +46,7 @@ pub fn open(
     let (code, bytes) = copies_of(alloc, image, settings)?;
     let (rounds, workers) = (settings.rounds, settings.workers);
     let is_elf = is_elf(settings.format);
-    Debugged::new(machine, code, rounds, workers, bytes, is_elf)
+    Ok(Debugged::new(machine, code, rounds, workers, bytes, is_elf)?)
 }
 
 /// The ranges of an image's code, and the image itself.

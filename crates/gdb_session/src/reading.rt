@@ -1,14 +1,13 @@
 //! Requests that change nothing.
 
-ghost use Rattle.std.specs.Prelude.{◌≡◌, ◌<◌, ◌++◌, Err, OnOk, ◌+◌, ◌^◌, IfSome, Some};
+ghost use Rattle.std.specs.Prelude.{◌≡◌, ◌<◌, ◌+◌, ◌^◌, IfOk, IfSome, Some};
 ghost use Rattle.std.specs.Option.{option_map};
-ghost use Rattle.host_io.specs.declared.error.RunError.TheVariants as refusals;
 ghost use Rattle.gdb_packets.specs.Writing.{packet_text};
 ghost use Rattle.gdb_replies.specs.Replies.{payload_of};
-ghost use Rattle.gdb_session.specs.Answers.{Replied, command_text, fixed_text, hart_of_thread, is_goto, is_hit, is_hits, is_setting, name_answer, note_text_of, stands_packets, stands_text};
+ghost use Rattle.gdb_talk.specs.Told.{hart_of_thread};
+ghost use Rattle.gdb_session.specs.Answers.{Replied, command_text, fixed_text, is_goto, is_hit, is_hits, is_setting, name_answer, note_text_of, stands_packets, stands_text};
 ghost use Rattle.gdb_runs.specs.Sessions.{IsReady, OfRun};
 
-use crate::selecting::{hart_of_thread, say_done};
 use gdb_answers::{
     answer_checksum, answer_harts, answer_memory, answer_note, answer_plan, answer_register,
     answer_registers, answer_threads, answer_where, file_reply,
@@ -17,101 +16,98 @@ use gdb_events::{
     answer_buffer, answer_event, answer_hit, answer_output, answer_reservations, answer_stop,
 };
 use gdb_packets::{Command, IMAGE_NAME, Request};
-use gdb_replies::{Reason, Reply, Window, command_help, target_description, write_reply};
+use gdb_replies::{Reason, Reply, Window, command_help, reply_text, target_description};
 use gdb_runs::{Debugged, Standing};
-use gdb_talk::Look;
-use host_io::{RunError, Sink};
+use gdb_talk::{Look, done_if, hart_of_thread};
+use pages::OutOfMemory;
 use std::alloc::Global;
 use std::sync::Wait;
 use std::thread::Threads;
 
 /// Answers a request that changes nothing. It may wait.
-pub(crate) fn reply_to<R: Threads + Wait + Sync, K: Sink>(
+pub(crate) fn reply_to<R: Threads + Wait + Sync>(
     rt: &R,
     alloc: Global,
     run: &mut Debugged,
     standing: Standing,
     request: Request,
-    out: &mut K,
-) -> Result<(), RunError>
+) -> Result<Vec<u8>, OutOfMemory>
     requires ready { IsReady run.old standing }
     ensures stays { run.new ≡ run.old }
-    ensures writes { OfRun run.old (λ r.
-        OnOk result (Replied r standing request (K.took out.old) (K.took out.new))) }
-    ensures memory { result ≡ Err refusals.OutOfMemory → K.took out.new ≡ K.took out.old }
+    ensures replies { OfRun run.old (λ r.
+        IfOk result (λ text. Replied r standing request text.items)) }
 {
     match fixed_reply(run.harts, run.image(), standing, request) {
-        Some(reply) => write_reply(alloc, &reply, out),
-        None => reply_at(rt, alloc, run, standing, request, out),
+        Some(reply) => reply_text(alloc, &reply),
+        None => reply_at(rt, alloc, run, standing, request),
     }
 }
 
 /// Answers a request that is about a moment of the run.
-fn reply_at<R: Threads + Wait + Sync, K: Sink>(
+fn reply_at<R: Threads + Wait + Sync>(
     rt: &R,
     alloc: Global,
     run: &mut Debugged,
     standing: Standing,
     request: Request,
-    out: &mut K,
-) -> Result<(), RunError>
+) -> Result<Vec<u8>, OutOfMemory>
     requires ready { IsReady run.old standing }
     ensures stays { run.new ≡ run.old }
-    ensures writes { OfRun run.old (λ r.
-        OnOk result (Replied r standing request (K.took out.old) (K.took out.new))) }
-    ensures memory { result ≡ Err refusals.OutOfMemory → K.took out.new ≡ K.took out.old }
+    ensures replies { OfRun run.old (λ r.
+        IfOk result (λ text. Replied r standing request text.items)) }
 {
     match request {
-        Request::WhyStopped => say_where(rt, alloc, run, standing, out),
-        Request::Note(thread) => say_note(rt, alloc, run, standing, thread, out),
+        Request::WhyStopped => say_where(rt, alloc, run, standing),
+        Request::Note(thread) => say_note(rt, alloc, run, standing, thread),
         Request::ThreadList(offset, count) => {
             let all = Look {
                 point: standing.point,
                 hart: run.harts,
                 workers: run.workers,
             };
-            answer_threads(rt, alloc, &mut run.timeline, all, offset, count, out)
+            answer_threads(rt, alloc, &mut run.timeline, all, offset, count)
         }
         Request::Command(command) => {
             if is_setting(command) {
                 // It changes the session, and isn't asked here.
-                return Err(RunError::OutOfMemory);
+                return Err(OutOfMemory);
             }
-            say_command(rt, alloc, run, standing, command, out)
+            say_command(rt, alloc, run, standing, command)
         }
-        Request::IsAlive(thread) => say_done(alloc, hart_of_thread(run.harts, thread), out),
-        _ => read_at(rt, alloc, run, standing, request, out),
+        Request::IsAlive(thread) => {
+            let hart = hart_of_thread(run.harts, thread);
+            reply_text(alloc, &done_if(hart.is_some()))
+        }
+        _ => read_at(rt, alloc, run, standing, request),
     }
 }
 
 /// Answers a request to read registers or memory where the run stands.
-fn read_at<R: Threads + Wait + Sync, K: Sink>(
+fn read_at<R: Threads + Wait + Sync>(
     rt: &R,
     alloc: Global,
     run: &mut Debugged,
     standing: Standing,
     request: Request,
-    out: &mut K,
-) -> Result<(), RunError>
+) -> Result<Vec<u8>, OutOfMemory>
     requires ready { IsReady run.old standing }
     ensures stays { run.new ≡ run.old }
-    ensures writes { OfRun run.old (λ r.
-        OnOk result (Replied r standing request (K.took out.old) (K.took out.new))) }
-    ensures memory { result ≡ Err refusals.OutOfMemory → K.took out.new ≡ K.took out.old }
+    ensures replies { OfRun run.old (λ r.
+        IfOk result (λ text. Replied r standing request text.items)) }
 {
     let look = look_of(standing, run.workers);
     let timeline = &mut run.timeline;
     match request {
-        Request::ReadRegisters => answer_registers(rt, alloc, timeline, look, out),
-        Request::ReadRegister(number) => answer_register(rt, alloc, timeline, look, number, out),
+        Request::ReadRegisters => answer_registers(rt, alloc, timeline, look),
+        Request::ReadRegister(number) => answer_register(rt, alloc, timeline, look, number),
         Request::ReadMemory(address, count) => {
-            answer_memory(rt, alloc, timeline, look, address, count, out)
+            answer_memory(rt, alloc, timeline, look, address, count)
         }
         Request::Checksum(address, count) => {
-            answer_checksum(rt, alloc, timeline, look, address, count, out)
+            answer_checksum(rt, alloc, timeline, look, address, count)
         }
         // No other request reads them.
-        _ => Err(RunError::OutOfMemory),
+        _ => Err(OutOfMemory),
     }
 }
 
@@ -204,39 +200,36 @@ fn is_setting(command: Command) -> bool
 }
 
 /// Answers a command of the user's that changes nothing.
-fn say_command<R: Threads + Wait + Sync, K: Sink>(
+fn say_command<R: Threads + Wait + Sync>(
     rt: &R,
     alloc: Global,
     run: &mut Debugged,
     standing: Standing,
     command: Command,
-    out: &mut K,
-) -> Result<(), RunError>
+) -> Result<Vec<u8>, OutOfMemory>
     requires ready { IsReady run.old standing }
     ensures stays { run.new ≡ run.old }
-    ensures writes { OfRun run.old (λ r.
-        OnOk result (K.took out.new ≡ K.took out.old
-        ++ packet_text (command_text r standing command))) }
-    ensures memory { result ≡ Err refusals.OutOfMemory → K.took out.new ≡ K.took out.old }
+    ensures text { OfRun run.old (λ r.
+        IfOk result (λ text. text.items ≡ packet_text (command_text r standing command))) }
 {
     let point = standing.point;
     let rounds = point.moment.rounds;
     let workers = run.workers;
     match command {
-        Command::Where => answer_where(rt, alloc, &mut run.timeline, point, workers, out),
+        Command::Where => answer_where(rt, alloc, &mut run.timeline, point, workers),
         Command::Harts => {
             let all = Look {
                 point,
                 hart: run.harts,
                 workers,
             };
-            answer_harts(rt, alloc, &mut run.timeline, all, out)
+            answer_harts(rt, alloc, &mut run.timeline, all)
         }
         Command::Buffer => {
             let look = look_of(standing, workers);
-            answer_buffer(rt, alloc, &mut run.timeline, look, out)
+            answer_buffer(rt, alloc, &mut run.timeline, look)
         }
-        Command::Event => answer_event(rt, alloc, &mut run.timeline, point, workers, out),
+        Command::Event => answer_event(rt, alloc, &mut run.timeline, point, workers),
         Command::Reservations => answer_reservations(
             rt,
             alloc,
@@ -245,62 +238,53 @@ fn say_command<R: Threads + Wait + Sync, K: Sink>(
             point,
             run.harts,
             workers,
-            out,
         ),
-        Command::Plan => answer_plan(alloc, run.start.plan(), rounds + 1, out),
-        Command::Output => answer_output(rt, alloc, &mut run.start, rounds, workers, out),
-        Command::Help => write_reply(alloc, &Reply::Words(command_help()), out),
-        _ => write_reply(
-            alloc,
-            &Reply::Words(b"no such command: monitor help\n"),
-            out,
-        ),
+        Command::Plan => answer_plan(alloc, run.start.plan(), rounds + 1),
+        Command::Output => answer_output(rt, alloc, &mut run.start, rounds, workers),
+        Command::Help => reply_text(alloc, &Reply::Words(command_help())),
+        _ => reply_text(alloc, &Reply::Words(b"no such command: monitor help\n")),
     }
 }
 
 /// Says where the run stands, and why. It may wait.
-pub(crate) fn say_where<R: Threads + Wait + Sync, K: Sink>(
+pub(crate) fn say_where<R: Threads + Wait + Sync>(
     rt: &R,
     alloc: Global,
     run: &mut Debugged,
     standing: Standing,
-    out: &mut K,
-) -> Result<(), RunError>
+) -> Result<Vec<u8>, OutOfMemory>
     requires ready { IsReady run.old standing }
     ensures stays { run.new ≡ run.old }
-    ensures writes { OfRun run.old (λ r.
-        OnOk result (K.took out.new ≡ K.took out.old ++ packet_text (stands_text r standing))) }
-    ensures memory { result ≡ Err refusals.OutOfMemory → K.took out.new ≡ K.took out.old }
+    ensures text { OfRun run.old (λ r.
+        IfOk result (λ text. text.items ≡ packet_text (stands_text r standing))) }
 {
     let look = Look {
         hart: standing.told,
         ..look_of(standing, run.workers)
     };
-    answer_stop(rt, alloc, &mut run.timeline, look, standing.reason, out)
+    answer_stop(rt, alloc, &mut run.timeline, look, standing.reason)
 }
 
 /// Says where a run that was resumed stands, and why: at a watchpoint behind the access, if that was asked for. It may wait.
-pub(crate) fn say_stop<R: Threads + Wait + Sync, K: Sink>(
+pub(crate) fn say_stop<R: Threads + Wait + Sync>(
     rt: &R,
     alloc: Global,
     run: &mut Debugged,
     standing: Standing,
-    out: &mut K,
-) -> Result<(), RunError>
+) -> Result<Vec<u8>, OutOfMemory>
     requires ready { IsReady run.old standing }
     ensures stays { run.new ≡ run.old }
-    ensures writes { OfRun run.old (λ r.
-        OnOk result (K.took out.new ≡ K.took out.old ++ stands_packets r standing)) }
-    ensures memory { result ≡ Err refusals.OutOfMemory → K.took out.new ≡ K.took out.old }
+    ensures text { OfRun run.old (λ r.
+        IfOk result (λ text. text.items ≡ stands_packets r standing)) }
 {
     if !(standing.hits && is_hit(standing.reason)) {
-        return say_where(rt, alloc, run, standing, out);
+        return say_where(rt, alloc, run, standing);
     }
     let look = Look {
         hart: standing.told,
         ..look_of(standing, run.workers)
     };
-    answer_hit(rt, alloc, &mut run.timeline, look, standing.reason, out)
+    answer_hit(rt, alloc, &mut run.timeline, look, standing.reason)
 }
 
 /// Whether a watchpoint is why the run stands.
@@ -314,20 +298,17 @@ fn is_hit(reason: Reason) -> bool
 }
 
 /// Says where a thread's hart is.
-fn say_note<R: Threads + Wait + Sync, K: Sink>(
+fn say_note<R: Threads + Wait + Sync>(
     rt: &R,
     alloc: Global,
     run: &mut Debugged,
     standing: Standing,
     thread: u64,
-    out: &mut K,
-) -> Result<(), RunError>
+) -> Result<Vec<u8>, OutOfMemory>
     requires ready { IsReady run.old standing }
     ensures stays { run.new ≡ run.old }
-    ensures writes { OfRun run.old (λ r.
-        OnOk result (K.took out.new ≡ K.took out.old
-        ++ packet_text (note_text_of r standing (hart_of_thread run.old.harts thread)))) }
-    ensures memory { result ≡ Err refusals.OutOfMemory → K.took out.new ≡ K.took out.old }
+    ensures text { OfRun run.old (λ r. IfOk result (λ text. text.items
+        ≡ packet_text (note_text_of r standing (hart_of_thread run.old.harts thread)))) }
 {
     match hart_of_thread(run.harts, thread) {
         Some(hart) => {
@@ -335,8 +316,8 @@ fn say_note<R: Threads + Wait + Sync, K: Sink>(
                 hart,
                 ..look_of(standing, run.workers)
             };
-            answer_note(rt, alloc, &mut run.timeline, look, out)
+            answer_note(rt, alloc, &mut run.timeline, look)
         }
-        None => write_reply(alloc, &Reply::Missing, out),
+        None => reply_text(alloc, &Reply::Missing),
     }
 }

@@ -4,9 +4,9 @@ ghost use Rattle.gdb_runs.specs.Sessions.{IsReady, OfRun, state_of};
 ghost use Rattle.gdb_session.specs.Serving.{HasEnded, Served, ServesOn, Talking, begun, talking};
 
 use crate::talk::Talk;
-use gdb_packets::Reader;
+use gdb_packets::{Reader, acknowledge};
 use gdb_runs::Debugged;
-use gdb_talk::refuse_lost;
+use gdb_talk::{refuse_lost, say};
 use host_io::{RunError, Sink, Source};
 use std::alloc::Global;
 use std::sync::Wait;
@@ -74,7 +74,9 @@ fn hear_next<R: Threads + Wait + Sync, S: Source, K: Sink>(
     let Some(item) = heard else {
         return Ok(false);
     };
-    talk.hear(rt, alloc, run, &item, out)?;
+    acknowledge(&item, out)?;
+    let response = talk.hear(rt, alloc, run, &item);
+    say(&response, out)?;
     if talk.has_ended(&item) {
         return Ok(false);
     }

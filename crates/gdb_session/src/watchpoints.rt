@@ -1,14 +1,10 @@
 //! Watchpoints that come and go.
 
-ghost use Rattle.std.specs.Prelude.{◌≡◌, ◌++◌, Err, IfOk, OnOk, codes};
+ghost use Rattle.std.specs.Prelude.{◌≡◌, IfOk};
 ghost use Rattle.std.specs.List.{list_any};
-ghost use Rattle.host_io.specs.declared.error.RunError.TheVariants as refusals;
-ghost use Rattle.gdb_packets.specs.Writing.{packet_text};
 ghost use Rattle.gdb_session.specs.Answers.{kind_number, kind_of, same_watch, watch_of, with_watch, without_watch};
 
 use gdb_packets::Watch;
-use gdb_replies::{Reply, write_reply};
-use host_io::{RunError, Sink};
 use pages::{OutOfMemory, Range};
 use round_steps::{WatchKind, Watchpoint};
 use std::alloc::Global;
@@ -63,7 +59,7 @@ fn has_watch(watches: &[Watchpoint], watch: &Watchpoint) -> bool
 }
 
 /// The watchpoints with this one.
-fn with_watch(
+pub(crate) fn with_watch(
     alloc: Global,
     watches: &[Watchpoint],
     watch: Watchpoint,
@@ -78,7 +74,7 @@ fn with_watch(
 }
 
 /// The watchpoints without this one.
-fn without_watch(
+pub(crate) fn without_watch(
     alloc: Global,
     watches: &[Watchpoint],
     watch: Watchpoint,
@@ -92,40 +88,4 @@ fn without_watch(
         }
     }
     Ok(changed)
-}
-
-/// Adds a watchpoint, and says that this is done.
-pub(crate) fn add_watch<K: Sink>(
-    alloc: Global,
-    watches: &mut Vec<Watchpoint>,
-    watch: Watchpoint,
-    out: &mut K,
-) -> Result<(), RunError>
-    ensures watches { OnOk result (watches.new.items ≡ with_watch watches.old.items watch) }
-    ensures writes { OnOk result (K.took out.new ≡ K.took out.old ++ packet_text (codes "OK")) }
-    ensures memory { result ≡ Err refusals.OutOfMemory →
-        (K.took out.new ≡ K.took out.old) × (watches.new ≡ watches.old) }
-{
-    let changed = with_watch(alloc, watches.as_slice(), watch)?;
-    write_reply(alloc, &Reply::Done, out)?;
-    *watches = changed;
-    Ok(())
-}
-
-/// Removes a watchpoint, and says that this is done.
-pub(crate) fn remove_watch<K: Sink>(
-    alloc: Global,
-    watches: &mut Vec<Watchpoint>,
-    watch: Watchpoint,
-    out: &mut K,
-) -> Result<(), RunError>
-    ensures watches { OnOk result (watches.new.items ≡ without_watch watches.old.items watch) }
-    ensures writes { OnOk result (K.took out.new ≡ K.took out.old ++ packet_text (codes "OK")) }
-    ensures memory { result ≡ Err refusals.OutOfMemory →
-        (K.took out.new ≡ K.took out.old) × (watches.new ≡ watches.old) }
-{
-    let changed = without_watch(alloc, watches.as_slice(), watch)?;
-    write_reply(alloc, &Reply::Done, out)?;
-    *watches = changed;
-    Ok(())
 }

@@ -13,8 +13,9 @@ use Rattle.past_harts.specs.Moments.{is_before}
 use Rattle.past_harts.specs.Points.{point_before, same_moment, is_behind_move}
 use Rattle.gdb_replies.specs.declared.stop_reply.Reason.{Reason}
 use Rattle.gdb_replies.specs.declared.stop_reply.Reason.TheVariants.{Begin, End, Step, Watch}
+use Rattle.gdb_talk.specs.Told.{is_stopped}
 use Rattle.gdb_runs.specs.declared.session.Standing.{Standing}
-use Rattle.gdb_runs.specs.Sessions.{Recorded, State, hart_seen, is_stopped, why, why_told}
+use Rattle.gdb_runs.specs.Sessions.{Recorded, State, hart_seen, why, why_told}
 use Rattle.gdb_runs.specs.Standings.{end_of, moved, stays, told_at, told_or}
 use Rattle.gdb_runs.specs.Wanted.{Finds, all_told, only_of, watched_of}
 

@@ -1,13 +1,12 @@
 //! Where a step ends, by what is told first.
 
-ghost use Rattle.std.specs.Prelude.{◌≡◌, ◌≤◌, Some, IfOk, IfErr, IfSome};
-ghost use Rattle.host_io.specs.declared.error.RunError.TheVariants as refusals;
+ghost use Rattle.std.specs.Prelude.{◌≡◌, ◌≤◌, Some, IfOk, IfSome};
 ghost use Rattle.gdb_runs.specs.Wanted.{Finds, all_told};
 ghost use Rattle.gdb_runs.specs.Standings.{told_or};
 ghost use Rattle.gdb_runs.specs.Sessions.{IsReady, IsWithin, OfRun, state_of};
 
 use gdb_runs::{Debugged, Session, Standing, all_told, find, tell};
-use host_io::RunError;
+use pages::OutOfMemory;
 use past_harts::Point;
 use round_steps::Told;
 use std::alloc::Global;
@@ -24,14 +23,13 @@ pub(crate) fn find_told<R: Threads + Wait + Sync>(
     way: Way,
     hart: u32,
     from: &Point,
-) -> Result<Option<Told>, RunError>
+) -> Result<Option<Told>, OutOfMemory>
     requires ready { IsReady run.old session.now.standing }
     requires within { from.now.moment.rounds ≤ run.old.timeline.rounds }
     ensures stays { run.new ≡ run.old }
     ensures finds { OfRun run.old (λ r. IfOk result (λ x.
         Finds r way (all_told (state_of session.now) (Some hart)) from.now x)) }
     ensures within { IfOk result (λ x. IfSome x (λ told. IsWithin run.old told.point)) }
-    ensures refused { IfErr result (λ e. e ≡ refusals.OutOfMemory) }
 {
     let telling = all_told(alloc, session, Some(hart))?;
     find(rt, run, way, telling, from)
@@ -44,7 +42,7 @@ pub(crate) fn tell_or<R: Threads + Wait + Sync>(
     session: &Session,
     found: Option<Told>,
     otherwise: Standing,
-) -> Result<Standing, RunError>
+) -> Result<Standing, OutOfMemory>
     requires ready { IsReady run.old session.now.standing }
     requires otherwise { IsReady run.old otherwise }
     requires within { IfSome found (λ x. IsWithin run.old x.point) }
@@ -52,7 +50,6 @@ pub(crate) fn tell_or<R: Threads + Wait + Sync>(
     ensures standing { OfRun run.old (λ r.
         IfOk result (λ t. t ≡ told_or r (state_of session.now) otherwise found)) }
     ensures ready { IfOk result (λ t. IsReady run.old t) }
-    ensures refused { IfErr result (λ e. e ≡ refusals.OutOfMemory) }
 {
     match found {
         Some(told) => tell(rt, run, session, told),

@@ -1,15 +1,14 @@
 //! Steps of one hart in which the others may move too.
 
-ghost use Rattle.std.specs.Prelude.{◌≡◌, ℕ, ◌<◌, ◌≤◌, if◌then◌else◌, IfOk, IfErr, IfSome};
-ghost use Rattle.host_io.specs.declared.error.RunError.TheVariants as refusals;
+ghost use Rattle.std.specs.Prelude.{◌≡◌, ℕ, ◌<◌, ◌≤◌, if◌then◌else◌, IfOk, IfSome};
 ghost use Rattle.gdb_steps.specs.Steps.{Steps, at_side, StepsBackBeside, StepsBy, StepsFrom, StepsOn, begins_step, later_of, no_step, sought_from};
-ghost use Rattle.gdb_runs.specs.Sessions.{IsReady, IsWithin, OfRun, is_stopped, state_of};
+ghost use Rattle.gdb_runs.specs.Sessions.{IsReady, IsWithin, OfRun, state_of};
 
 use crate::finding::{find_told, tell_or};
 use gdb_replies::Reason;
 use gdb_runs::{Debugged, Session, Standing, end_of, tell, why_told};
-use hart_step::Hart;
-use host_io::RunError;
+use gdb_talk::is_stopped;
+use pages::OutOfMemory;
 use past_harts::{Point, Side};
 use round_steps::Told;
 use std::alloc::Global;
@@ -18,23 +17,18 @@ use std::thread::Threads;
 use watching::Way;
 
 /// A step of a hart, in which the others may go on. It may wait.
-///
-/// # Errors
-///
-/// `OutOfMemory` alone.
 pub fn step<R: Threads + Wait + Sync>(
     rt: &R,
     alloc: Global,
     run: &mut Debugged,
     session: &Session,
     hart: u32,
-) -> Result<Standing, RunError>
+) -> Result<Standing, OutOfMemory>
     requires ready { IsReady run.old session.now.standing }
     requires hart { hart < run.old.harts }
     ensures stays { run.new ≡ run.old }
     ensures steps { OfRun run.old (λ r. IfOk result (λ t. Steps r (state_of session.now) hart t)) }
     ensures ready { IfOk result (λ t. IsReady run.old t) }
-    ensures refused { IfErr result (λ e. e ≡ refusals.OutOfMemory) }
 {
     let there = run.hart_at(rt, &session.standing.point, hart)?;
     if is_stopped(there) {
@@ -50,14 +44,13 @@ fn step_on<R: Threads + Wait + Sync>(
     run: &mut Debugged,
     session: &Session,
     hart: u32,
-) -> Result<Standing, RunError>
+) -> Result<Standing, OutOfMemory>
     requires ready { IsReady run.old session.now.standing }
     requires hart { hart < run.old.harts }
     ensures stays { run.new ≡ run.old }
     ensures steps { OfRun run.old (λ r. IfOk result (λ t.
         StepsOn r (state_of session.now) hart t)) }
     ensures ready { IfOk result (λ t. IsReady run.old t) }
-    ensures refused { IfErr result (λ e. e ≡ refusals.OutOfMemory) }
 {
     let from = sought_from(Way::On, session.standing.point, hart);
     let found = find_told(rt, alloc, run, session, Way::On, hart, &from)?;
@@ -92,14 +85,13 @@ fn step_by<R: Threads + Wait + Sync>(
     session: &Session,
     hart: u32,
     found: Option<Told>,
-) -> Result<Standing, RunError>
+) -> Result<Standing, OutOfMemory>
     requires ready { IsReady run.old session.now.standing }
     requires within { IfSome found (λ x. IsWithin run.old x.point) }
     ensures stays { run.new ≡ run.old }
     ensures steps { OfRun run.old (λ r. IfOk result (λ t.
         StepsBy r (state_of session.now) hart found t)) }
     ensures ready { IfOk result (λ t. IsReady run.old t) }
-    ensures refused { IfErr result (λ e. e ≡ refusals.OutOfMemory) }
 {
     let Some(told) = found else {
         return Ok(end_of(run, session.standing, Way::On));
@@ -118,13 +110,12 @@ fn begins_step<R: Threads + Wait + Sync>(
     session: &Session,
     hart: u32,
     told: Told,
-) -> Result<bool, RunError>
+) -> Result<bool, OutOfMemory>
     requires ready { IsReady run.old session.now.standing }
     requires within { IsWithin run.old told.point }
     ensures stays { run.new ≡ run.old }
     ensures begins { OfRun run.old (λ r. IfOk result (λ b.
         b ≡ begins_step r (state_of session.now) hart told)) }
-    ensures refused { IfErr result (λ e. e ≡ refusals.OutOfMemory) }
 {
     let moment = told.point.moment;
     if moment.place.hart != hart {
@@ -145,14 +136,13 @@ fn step_from<R: Threads + Wait + Sync>(
     session: &Session,
     hart: u32,
     at: Point,
-) -> Result<Standing, RunError>
+) -> Result<Standing, OutOfMemory>
     requires ready { IsReady run.old session.now.standing }
     requires within { IsWithin run.old at }
     ensures stays { run.new ≡ run.old }
     ensures steps { OfRun run.old (λ r. IfOk result (λ t.
         StepsFrom r (state_of session.now) hart at t)) }
     ensures ready { IfOk result (λ t. IsReady run.old t) }
-    ensures refused { IfErr result (λ e. e ≡ refusals.OutOfMemory) }
 {
     let from = later_of(session.standing.point, at);
     let found = find_told(rt, alloc, run, session, Way::On, hart, &from)?;
@@ -179,13 +169,12 @@ pub(crate) fn step_back_beside<R: Threads + Wait + Sync>(
     alloc: Global,
     run: &mut Debugged,
     session: &Session,
-) -> Result<Standing, RunError>
+) -> Result<Standing, OutOfMemory>
     requires ready { IsReady run.old session.now.standing }
     ensures stays { run.new ≡ run.old }
     ensures steps { OfRun run.old (λ r. IfOk result (λ t.
         StepsBackBeside r (state_of session.now) session.now.standing.general t)) }
     ensures ready { IfOk result (λ t. IsReady run.old t) }
-    ensures refused { IfErr result (λ e. e ≡ refusals.OutOfMemory) }
 {
     let standing = session.standing;
     let hart = standing.general;
@@ -205,15 +194,5 @@ pub(crate) fn no_step(run: &Debugged, standing: Standing, way: Way, hart: u32) -
     match way {
         Way::On => end_of(run, standing, Way::On),
         Way::Back => standing.stays(Reason::Begin, hart),
-    }
-}
-
-/// Whether a hart has stopped, or isn't there.
-pub(crate) fn is_stopped(hart: Option<Hart>) -> bool
-    ensures { result ≡ is_stopped hart }
-{
-    match hart {
-        Some(hart) => hart.stop.is_some(),
-        None => true,
     }
 }

@@ -1,17 +1,18 @@
 //! Steps of one hart alone: of no other hart anything is told.
 
-ghost use Rattle.std.specs.Prelude.{◌≡◌, ℕ, ◌≤◌, ◌<◌, IfOk, IfErr, IfSome};
-ghost use Rattle.host_io.specs.declared.error.RunError.TheVariants as refusals;
+ghost use Rattle.std.specs.Prelude.{◌≡◌, ℕ, ◌≤◌, ◌<◌, IfOk, IfSome};
 ghost use Rattle.watching.specs.declared.watchpoint.Way.TheVariants.{On};
 ghost use Rattle.gdb_steps.specs.Steps.{MovesAlone, MovesAloneBy, Passes, PassesOne, StepsAlone, StepsBack, after_one, alone_at, is_rival, is_watch, led_to, only_looks, own_from, own_moment, sooner_of, stands_alone, with_fault};
-ghost use Rattle.gdb_runs.specs.Sessions.{IsReady, IsWithin, OfRun, is_stopped, state_of};
+ghost use Rattle.gdb_talk.specs.Told.{is_stopped};
+ghost use Rattle.gdb_runs.specs.Sessions.{IsReady, IsWithin, OfRun, state_of};
 ghost use Rattle.round_schedule.specs.Bounds.{AreWorkers};
 
-use crate::stepping::{at_side_if, is_stopped, later_of, no_step, sought_from, step_back_beside};
+use crate::stepping::{at_side_if, later_of, no_step, sought_from, step_back_beside};
 use gdb_replies::Reason;
 use gdb_runs::{Debugged, Session, Standing, find, only_of, tell, watched_of, why};
+use gdb_talk::is_stopped;
 use hart_step::Hart;
-use host_io::RunError;
+use pages::OutOfMemory;
 use past_harts::{Moment, Place, Point, Side};
 use round_steps::Told;
 use std::alloc::Global;
@@ -20,24 +21,19 @@ use std::thread::Threads;
 use watching::Way;
 
 /// A step of a hart alone. It may wait.
-///
-/// # Errors
-///
-/// `OutOfMemory` alone.
 pub fn step_alone<R: Threads + Wait + Sync>(
     rt: &R,
     alloc: Global,
     run: &mut Debugged,
     session: &Session,
     hart: u32,
-) -> Result<Standing, RunError>
+) -> Result<Standing, OutOfMemory>
     requires ready { IsReady run.old session.now.standing }
     requires hart { hart < run.old.harts }
     ensures stays { run.new ≡ run.old }
     ensures steps { OfRun run.old (λ r. IfOk result (λ t.
         StepsAlone r (state_of session.now) hart t)) }
     ensures ready { IfOk result (λ t. IsReady run.old t) }
-    ensures refused { IfErr result (λ e. e ≡ refusals.OutOfMemory) }
 {
     let there = run.hart_at(rt, &session.standing.point, hart)?;
     if is_stopped(there) {
@@ -47,21 +43,16 @@ pub fn step_alone<R: Threads + Wait + Sync>(
 }
 
 /// A step back, of the hart alone that is to move so, if there is one. It may wait.
-///
-/// # Errors
-///
-/// `OutOfMemory` alone.
 pub fn step_back<R: Threads + Wait + Sync>(
     rt: &R,
     alloc: Global,
     run: &mut Debugged,
     session: &Session,
-) -> Result<Standing, RunError>
+) -> Result<Standing, OutOfMemory>
     requires ready { IsReady run.old session.now.standing }
     ensures stays { run.new ≡ run.old }
     ensures steps { OfRun run.old (λ r. IfOk result (λ t. StepsBack r (state_of session.now) t)) }
     ensures ready { IfOk result (λ t. IsReady run.old t) }
-    ensures refused { IfErr result (λ e. e ≡ refusals.OutOfMemory) }
 {
     match session.standing.moving {
         None => step_back_beside(rt, alloc, run, session),
@@ -77,14 +68,13 @@ fn pass<R: Threads + Wait + Sync>(
     session: &Session,
     way: Way,
     hart: u32,
-) -> Result<Standing, RunError>
+) -> Result<Standing, OutOfMemory>
     requires ready { IsReady run.old session.now.standing }
     requires hart { hart < run.old.harts }
     ensures stays { run.new ≡ run.old }
     ensures passes { OfRun run.old (λ r. IfOk result (λ t.
         Passes r (state_of session.now) way hart t)) }
     ensures ready { IfOk result (λ t. IsReady run.old t) }
-    ensures refused { IfErr result (λ e. e ≡ refusals.OutOfMemory) }
 {
     if only_looks(way, &session.standing, hart) {
         return Ok(session.standing.stays(Reason::Step, hart));
@@ -142,14 +132,13 @@ fn pass_one<R: Threads + Wait + Sync>(
     session: &Session,
     way: Way,
     hart: u32,
-) -> Result<Standing, RunError>
+) -> Result<Standing, OutOfMemory>
     requires ready { IsReady run.old session.now.standing }
     requires hart { hart < run.old.harts }
     ensures stays { run.new ≡ run.old }
     ensures passes { OfRun run.old (λ r. IfOk result (λ t.
         PassesOne r (state_of session.now) way hart t)) }
     ensures ready { IfOk result (λ t. IsReady run.old t) }
-    ensures refused { IfErr result (λ e. e ≡ refusals.OutOfMemory) }
 {
     let telling = only_of(alloc, hart);
     let from = sought_from(way, session.standing.point, hart);
@@ -166,7 +155,7 @@ fn move_by<R: Threads + Wait + Sync>(
     way: Way,
     hart: u32,
     found: Option<Told>,
-) -> Result<Standing, RunError>
+) -> Result<Standing, OutOfMemory>
     requires ready { IsReady run.old session.now.standing }
     requires hart { hart < run.old.harts }
     requires within { IfSome found (λ x. IsWithin run.old x.point) }
@@ -174,7 +163,6 @@ fn move_by<R: Threads + Wait + Sync>(
     ensures moves { OfRun run.old (λ r. IfOk result (λ t.
         MovesAloneBy r (state_of session.now) way hart found t)) }
     ensures ready { IfOk result (λ t. IsReady run.old t) }
-    ensures refused { IfErr result (λ e. e ≡ refusals.OutOfMemory) }
 {
     match found {
         Some(told) => move_alone(rt, alloc, run, session, way, hart, told.point),
@@ -191,7 +179,7 @@ fn move_alone<R: Threads + Wait + Sync>(
     way: Way,
     hart: u32,
     at: Point,
-) -> Result<Standing, RunError>
+) -> Result<Standing, OutOfMemory>
     requires ready { IsReady run.old session.now.standing }
     requires hart { hart < run.old.harts }
     requires within { IsWithin run.old at }
@@ -199,7 +187,6 @@ fn move_alone<R: Threads + Wait + Sync>(
     ensures moves { OfRun run.old (λ r. IfOk result (λ t.
         MovesAlone r (state_of session.now) way hart at t)) }
     ensures ready { IfOk result (λ t. IsReady run.old t) }
-    ensures refused { IfErr result (λ e. e ≡ refusals.OutOfMemory) }
 {
     let telling = watched_of(alloc, session, hart)?;
     let from = own_from(way, session.standing.point, at);
@@ -259,7 +246,7 @@ fn stand_alone<R: Threads + Wait + Sync>(
     hart: u32,
     at: Point,
     found: Option<Told>,
-) -> Result<Standing, RunError>
+) -> Result<Standing, OutOfMemory>
     requires ready { IsReady run.old session.now.standing }
     requires hart { hart < run.old.harts }
     requires within { IsWithin run.old at }
@@ -268,7 +255,6 @@ fn stand_alone<R: Threads + Wait + Sync>(
     ensures standing { OfRun run.old (λ r.
         IfOk result (λ t. t ≡ alone_at r (state_of session.now) way hart at found)) }
     ensures ready { IfOk result (λ t. IsReady run.old t) }
-    ensures refused { IfErr result (λ e. e ≡ refusals.OutOfMemory) }
 {
     let Some(told) = found else {
         return lead(rt, run, session, way, hart, at);
@@ -298,7 +284,7 @@ fn lead<R: Threads + Wait + Sync>(
     way: Way,
     hart: u32,
     at: Point,
-) -> Result<Standing, RunError>
+) -> Result<Standing, OutOfMemory>
     requires ready { IsReady run.old session.now.standing }
     requires hart { hart < run.old.harts }
     requires within { IsWithin run.old at }
@@ -306,7 +292,6 @@ fn lead<R: Threads + Wait + Sync>(
     ensures standing { OfRun run.old (λ r.
         IfOk result (λ t. t ≡ stands_alone r (state_of session.now) hart (led_to r way hart at))) }
     ensures ready { IfOk result (λ t. IsReady run.old t) }
-    ensures refused { IfErr result (λ e. e ≡ refusals.OutOfMemory) }
 {
     let to = led_to(rt, run, way, hart, at)?;
     stand_at(rt, run, session, hart, to)
@@ -319,13 +304,12 @@ fn led_to<R: Threads + Wait + Sync>(
     way: Way,
     hart: u32,
     at: Point,
-) -> Result<Point, RunError>
+) -> Result<Point, OutOfMemory>
     requires within { at.moment.rounds ≤ run.old.timeline.rounds }
     requires workers { AreWorkers run.old.workers }
     ensures stays { run.new ≡ run.old }
     ensures leads { OfRun run.old (λ r. IfOk result (λ x. x ≡ led_to r way hart at)) }
     ensures round { IfOk result (λ x. x.moment.rounds ≡ at.moment.rounds) }
-    ensures refused { IfErr result (λ e. e ≡ refusals.OutOfMemory) }
 {
     match way {
         Way::On => behind(rt, run, hart, at),
@@ -339,13 +323,12 @@ fn behind<R: Threads + Wait + Sync>(
     run: &mut Debugged,
     hart: u32,
     at: Point,
-) -> Result<Point, RunError>
+) -> Result<Point, OutOfMemory>
     requires within { at.moment.rounds ≤ run.old.timeline.rounds }
     requires workers { AreWorkers run.old.workers }
     ensures stays { run.new ≡ run.old }
     ensures leads { OfRun run.old (λ r. IfOk result (λ x. x ≡ led_to r On hart at)) }
     ensures round { IfOk result (λ x. x.moment.rounds ≡ at.moment.rounds) }
-    ensures refused { IfErr result (λ e. e ≡ refusals.OutOfMemory) }
 {
     let there = run.hart_at(rt, &at, hart)?;
     if is_stopped(there) {
@@ -364,7 +347,7 @@ fn stand_at<R: Threads + Wait + Sync>(
     session: &Session,
     hart: u32,
     at: Point,
-) -> Result<Standing, RunError>
+) -> Result<Standing, OutOfMemory>
     requires ready { IsReady run.old session.now.standing }
     requires hart { hart < run.old.harts }
     requires within { at.moment.rounds ≤ run.old.timeline.rounds }
@@ -372,7 +355,6 @@ fn stand_at<R: Threads + Wait + Sync>(
     ensures standing { OfRun run.old (λ r.
         IfOk result (λ t. t ≡ stands_alone r (state_of session.now) hart at)) }
     ensures ready { IfOk result (λ t. IsReady run.old t) }
-    ensures refused { IfErr result (λ e. e ≡ refusals.OutOfMemory) }
 {
     let there = run.hart_at(rt, &at, hart)?;
     let reason = why(&[], &[], there);

@@ -1,25 +1,21 @@
 //! Steps of one hart that are repeated in a range of addresses.
 
-ghost use Rattle.std.specs.Prelude.{◌≡◌, ◌<◌, IfOk, IfErr};
-ghost use Rattle.host_io.specs.declared.error.RunError.TheVariants as refusals;
+ghost use Rattle.std.specs.Prelude.{◌≡◌, ◌<◌, IfOk};
 ghost use Rattle.gdb_steps.specs.Steps.{StepsIn, is_in, is_step, steps_further};
 ghost use Rattle.gdb_runs.specs.Sessions.{IsReady, OfRun, state_of};
 
-use crate::stepping::{is_stopped, step};
+use crate::stepping::step;
 use gdb_replies::Reason;
 use gdb_runs::{Debugged, Session, Standing, steps_in_round};
+use gdb_talk::is_stopped;
 use hart_step::Hart;
-use host_io::RunError;
+use pages::OutOfMemory;
 use std::alloc::Global;
 use std::sync::Wait;
 use std::thread::Threads;
 
 /// Steps of a hart, in which the others may go on, as long as its pc is at `low` or behind it and before `high`, and nothing else is told:
 /// one, and no more than come to some 4,000,000 instructions. It may wait.
-///
-/// # Errors
-///
-/// `OutOfMemory` alone.
 pub fn step_in<R: Threads + Wait + Sync>(
     rt: &R,
     alloc: Global,
@@ -28,7 +24,7 @@ pub fn step_in<R: Threads + Wait + Sync>(
     hart: u32,
     low: u64,
     high: u64,
-) -> Result<Standing, RunError>
+) -> Result<Standing, OutOfMemory>
     requires ready { IsReady run.old session.old.standing }
     requires hart { hart < run.old.harts }
     ensures stays { run.new ≡ run.old }
@@ -36,7 +32,6 @@ pub fn step_in<R: Threads + Wait + Sync>(
     ensures steps { OfRun run.old (λ r. IfOk result (λ t.
         StepsIn r low high hart (state_of session.old) t)) }
     ensures ready { IfOk result (λ t. IsReady run.old t) }
-    ensures refused { IfErr result (λ e. e ≡ refusals.OutOfMemory) }
 {
     let before = session.standing;
     let stood = step_further(rt, alloc, run, session, hart, low, high);
@@ -53,7 +48,7 @@ fn step_further<R: Threads + Wait + Sync>(
     hart: u32,
     low: u64,
     high: u64,
-) -> Result<Standing, RunError>
+) -> Result<Standing, OutOfMemory>
     requires ready { IsReady run.old session.old.standing }
     requires hart { hart < run.old.harts }
     ensures stays { run.new ≡ run.old }
@@ -61,7 +56,6 @@ fn step_further<R: Threads + Wait + Sync>(
     ensures steps { OfRun run.old (λ r. IfOk result (λ t.
         StepsIn r low high hart (state_of session.old) t)) }
     ensures ready { IfOk result (λ t. IsReady run.old t) }
-    ensures refused { IfErr result (λ e. e ≡ refusals.OutOfMemory) }
 {
     let most = steps_in_round(run.start.plan(), session.standing.point.moment.rounds);
     for _i in 0..most {
@@ -82,12 +76,11 @@ fn steps_further<R: Threads + Wait + Sync>(
     hart: u32,
     low: u64,
     high: u64,
-) -> Result<bool, RunError>
+) -> Result<bool, OutOfMemory>
     requires ready { IsReady run.old standing }
     ensures stays { run.new ≡ run.old }
     ensures further { OfRun run.old (λ r. IfOk result (λ b.
         b ≡ steps_further r low high hart standing)) }
-    ensures refused { IfErr result (λ e. e ≡ refusals.OutOfMemory) }
 {
     if standing.told != hart || !is_step(standing.reason) {
         return Ok(false);

@@ -4,6 +4,7 @@ use Rattle.std.specs.List.{flat_map}
 use Rattle.std.proofs.lemmas.Grind.{flat_map-append}
 use Rattle.gdb_packets.specs.Reads.{GoesOn, TellsBy}
 use Rattle.gdb_packets.specs.Stream.{Told, next_of}
+use Rattle.gdb_packets.specs.Writing.{answer_to}
 use Rattle.gdb_talk.specs.Serving.{Begins, Goes, Goes_on, Nothing, Refused, Served, refusal_of}
 
 -- bytes behind those that were given, and what is held behind them
@@ -37,6 +38,13 @@ module _ {T : Type 0} (begun : T) (Hears : T → Told → List ℕ → T → Typ
     gave_is = goes_behind g so.text g1 held g2 held2 y.text so.gave_is y.on;
     took_is = took_behind t so.written t1 v t2 so.took_is took;
   }
+
+  -- it is acknowledged, and this is said behind that
+  pub serves_said : (g1 t1 held : List ℕ) (s : T) (g2 u t2 held2 : List ℕ) (x : Told) (said : List ℕ) (s2 : T) → Served begun Hears g g1 t t1 held s →
+      TellsBy next_of g1 held g2 held2 x → Hears s x (answer_to x ++ said) s2 → u ≡ t1 ++ answer_to x → t2 ≡ u ++ said → Served begun Hears g g2 t t2 held2 s2
+  serves_said g1 t1 held s g2 u t2 held2 x said s2 so y hears acknowledged says =
+      serves_more g1 t1 held s g2 t2 held2 x (answer_to x ++ said) s2 so y hears
+      (says ∙ ap (λ (xs : List ℕ). xs ++ said) acknowledged ∙ append_assoc t1 (answer_to x) said)
 
 module _ (number : ℕ) (g t : List ℕ) where
   pub refuses_none : Refused number g g t t []

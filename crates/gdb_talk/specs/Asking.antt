@@ -36,3 +36,8 @@ abbrev pub ends : Told → Option Request → Bool
 ends x (Some requests.Kill) = true
 ends x (Some requests.Detach) = is_accepted x
 ends x last = false
+
+-- what is to end isn't answered
+abbrev pub UnlessKill : Request → Type 0 → Type 0 → Type 0
+UnlessKill requests.Kill Ends Is_answered = Ends
+UnlessKill request Ends Is_answered = Is_answered

@@ -3,7 +3,8 @@ use Rattle.std.specs.Prelude.{◌≡◌, ℕ, List, [], ◌∷◌, ◌++◌, cod
 use Rattle.std.specs.Fmt.{decimal}
 use Rattle.std.specs.List.{flat_map}
 use Rattle.gdb_packets.specs.Stream.{Told, Accepted, Again, Interrupt, Packet, Spoilt, Tells}
-use Rattle.gdb_packets.specs.Writing.{packet_text}
+use Rattle.gdb_packets.specs.Writing.{answer_to, packet_text}
+use Rattle.gdb_talk.specs.Saying.{refused_text}
 
 -- some bytes say these things one after another
 pub data Says : List ℕ → List Told → Type 0 where
@@ -15,6 +16,16 @@ pub data Hear {T : Type 0} (begun : T) (Hears : T → Told → List ℕ → T �
   Begins : Hear begun Hears [] [] begun
   Goes : (xs : List Told) (w : List ℕ) (s : T) (x : Told) (v : List ℕ) (t : T) →
       Hear begun Hears xs w s → Hears s x v t → Hear begun Hears (xs ++ x ∷ []) (w ++ v) t
+
+-- what is heard is acknowledged, and then this is said
+pub record Answered (x : Told) (written : List ℕ) (Fits : List ℕ → Type 0) : Type 0 where
+  pub said : List ℕ
+  pub fits : Fits said
+  pub is : written ≡ answer_to x ++ said
+
+-- something that found no memory itself is acknowledged, and answered so
+abbrev pub IsLost : {T : Type 0} → T → List ℕ → T → Type 0
+IsLost s written t = (written ≡ 43 ∷ refused_text) × (t ≡ s)
 
 -- what was read says this, and that was written; what is left of the one says nothing yet
 pub record Served {T : Type 0} (begun : T) (Hears : T → Told → List ℕ → T → Type 0) (gave gave_then took took_then rest : List ℕ) (t : T) : Type 0 where

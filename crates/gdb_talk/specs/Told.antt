@@ -1,5 +1,5 @@
 -- What a debugger is told of a hart at a moment.
-use Rattle.std.specs.Prelude.{ℕ, ◌+◌, ◌==◌, ◌||◌, false, if◌then◌else◌, List, codes, slice_set, slice_index, Option, Some, None}
+use Rattle.std.specs.Prelude.{ℕ, ◌+◌, ◌-◌, ◌==◌, ◌||◌, nat_lt, Bool, true, false, is_some, if◌then◌else◌, List, codes, slice_set, slice_index, Option, Some, None}
 use Rattle.hart_step.specs.declared.hart.Hart.{Hart}
 use Rattle.hart_step.specs.declared.hart.Stop.{Stop}
 use Rattle.moments.specs.Sights.{Sight}
@@ -9,7 +9,7 @@ use Rattle.past_harts.specs.Moments.{phase_number}
 use Rattle.gdb_replies.specs.declared.note.ThreadNote.{ThreadNote}
 use Rattle.gdb_replies.specs.declared.registers.Registers.{Registers}
 use Rattle.gdb_replies.specs.declared.stop_reply.Reason.{Reason}
-use Rattle.gdb_replies.specs.declared.stop_reply.Reason.TheVariants.{Breakpoint, Signal, Step}
+use Rattle.gdb_replies.specs.declared.stop_reply.Reason.TheVariants.{Breakpoint, HardwareBreakpoint, Signal, Step}
 use Rattle.gdb_replies.specs.declared.stop_reply.StopReply.{StopReply}
 
 -- the hart's own numbers, of which x0 reads 0, and where in the run it is
@@ -37,12 +37,27 @@ abbrev pub reason_by_stop : Option Stop → Reason → Reason
 reason_by_stop None other = other
 reason_by_stop (Some s) other = if s.code == 1 then other else Signal (signal_of s.code)
 
-abbrev pub reason_of : List ℕ → Hart → Reason
-reason_of stops h = reason_by_stop h.stop (if is_one_of stops h.pc then Breakpoint else Step)
+-- software and hardware breakpoints are at these addresses
+abbrev pub reason_of : List ℕ → List ℕ → Hart → Reason
+reason_of software hardware h =
+    reason_by_stop h.stop (if is_one_of software h.pc then Breakpoint else (if is_one_of hardware h.pc then HardwareBreakpoint else Step))
+
+-- there is no step of a hart that has stopped, nor of one that isn't there
+abbrev pub is_stopped : Option Hart → Bool
+is_stopped None = true
+is_stopped (Some h) = is_some h.stop
 
 -- thread i + 1 stands there for a reason
 abbrev pub stop_reply_of : Reason → ℕ → Hart → StopReply
 stop_reply_of why i h = record { reason = why; thread = i + 1; pc = h.pc; sp = slice_index h.x 2; fp = slice_index h.x 8 }
+
+-- threads are numbered from 1
+abbrev pub hart_of_thread : ℕ → ℕ → Option ℕ
+hart_of_thread harts thread = if thread == 0 || nat_lt harts thread then None else Some (thread - 1)
+
+-- what is answered where something is done, and where there is no such thing
+abbrev pub done_if : Bool → List ℕ
+done_if done = if done then codes "OK" else codes "E01"
 
 -- what is answered of a hart as it is seen, and `E01` where there is no such hart
 abbrev pub or_missing : Option (Sight Hart) → (Sight Hart → List ℕ) → List ℕ

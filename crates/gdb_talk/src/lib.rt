@@ -10,6 +10,9 @@ mod told;
 
 pub use asking::{asked_by, has_left};
 pub use look::Look;
-pub use saying::{ask, refuse, refuse_each, refuse_lost};
-pub use stops::{add_stop, remove_stop};
-pub use told::{note_of, reason_of, registers_of, stop_reply_of};
+pub use saying::{Response, refuse_each, refuse_lost, say};
+pub use stops::{with_one, without_one};
+pub use told::{
+    done_if, hart_of_thread, is_stopped, note_of, reason_of, register_of, registers_of,
+    stop_reply_of,
+};

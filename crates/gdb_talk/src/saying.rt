@@ -1,10 +1,10 @@
-//! What is said to a debugger beside replies.
+//! What is said to a debugger.
 
 ghost use Rattle.std.specs.Prelude.{◌≡◌, ◌∷◌, ◌++◌, ℕ, List, Err, OnErr, OnOk, None};
 ghost use Rattle.host_io.specs.declared.error.RunError.TheVariants as refusals;
 ghost use Rattle.gdb_packets.specs.Stream.{next_of};
 ghost use Rattle.gdb_packets.specs.Views.{told_in};
-ghost use Rattle.gdb_talk.specs.Saying.{asks_text, refused_text};
+ghost use Rattle.gdb_talk.specs.Saying.{asks_text, refused_text, response_text};
 ghost use Rattle.gdb_talk.specs.Serving.{Refused, refusal_of};
 
 use gdb_packets::{Item, Reader, acknowledge};
@@ -18,12 +18,38 @@ const REFUSED: &[u8] = b"$E.error 20#1f";
 /// What asks for an acknowledgement: a packet with nothing for the debugger's terminal.
 const ASKS: &[u8] = b"$O#4f";
 
-/// Asks for an acknowledgement.
+/// What is said to a debugger behind the acknowledgement of what it said.
+#[derive(Drop)]
+pub enum Response {
+    /// Nothing.
+    Nothing,
+    /// These packets.
+    Packets(Vec<u8>),
+    /// The wish for an acknowledgement: the answer is still sought.
+    Asks,
+    /// That there was no memory for an answer.
+    Refused,
+}
+
+/// Says it.
 ///
 /// # Errors
 ///
 /// `SinkFailed` alone.
-pub fn ask<K: Sink>(out: &mut K) -> Result<(), RunError>
+pub fn say<K: Sink>(response: &Response, out: &mut K) -> Result<(), RunError>
+    ensures writes { OnOk result (K.took out.new ≡ K.took out.old ++ response_text response.now) }
+    ensures errors { OnErr result (result ≡ Err refusals.SinkFailed) }
+{
+    match response {
+        Response::Nothing => Ok(()),
+        Response::Packets(text) => put_all(out, text.as_slice()),
+        Response::Asks => ask(out),
+        Response::Refused => refuse(out),
+    }
+}
+
+/// Asks for an acknowledgement.
+fn ask<K: Sink>(out: &mut K) -> Result<(), RunError>
     ensures writes { OnOk result (K.took out.new ≡ K.took out.old ++ asks_text) }
     ensures errors { OnErr result (result ≡ Err refusals.SinkFailed) }
 {
@@ -31,11 +57,7 @@ pub fn ask<K: Sink>(out: &mut K) -> Result<(), RunError>
 }
 
 /// Says that a request found no memory.
-///
-/// # Errors
-///
-/// `SinkFailed` alone.
-pub fn refuse<K: Sink>(out: &mut K) -> Result<(), RunError>
+fn refuse<K: Sink>(out: &mut K) -> Result<(), RunError>
     ensures writes { OnOk result (K.took out.new ≡ K.took out.old ++ refused_text) }
     ensures errors { OnErr result (result ≡ Err refusals.SinkFailed) }
 {

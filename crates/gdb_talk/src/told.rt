@@ -1,7 +1,9 @@
-ghost use Rattle.std.specs.Prelude.{◌≡◌, ◌+◌, ◌<◌, ◌^◌};
-ghost use Rattle.gdb_talk.specs.Told.{note_of, reason_of, registers_of, signal_of, stop_reply_of, told_stop};
+ghost use Rattle.std.specs.Prelude.{◌≡◌, ◌+◌, ◌<◌, ◌^◌, IfSome, slice_get};
+ghost use Rattle.gdb_replies.specs.Replies.{payload_of};
+ghost use Rattle.gdb_replies.specs.Words.{numbers_of};
+ghost use Rattle.gdb_talk.specs.Told.{done_if, hart_of_thread, is_stopped, note_of, reason_of, registers_of, signal_of, stop_reply_of, told_stop};
 
-use gdb_replies::{Reason, Registers, StopReply, ThreadNote};
+use gdb_replies::{Reason, Registers, Reply, StopReply, ThreadNote};
 use hart_step::{Hart, Stop};
 use past_harts::{Moment, phase_number};
 
@@ -18,6 +20,41 @@ pub fn registers_of(hart: &Hart, moment: Moment) -> Registers
         place: hart.done,
         phase: u64::from(phase_number(moment.place.phase)),
     }
+}
+
+/// A register by its number.
+pub fn register_of(registers: &Registers, number: u64) -> Option<u64>
+    ensures { result ≡ slice_get (numbers_of registers.now) number }
+{
+    if number < 32 {
+        return Some(registers.x[number as usize]);
+    }
+    match number {
+        32 => Some(registers.pc),
+        33 => Some(registers.round),
+        34 => Some(registers.place),
+        35 => Some(registers.phase),
+        _ => None,
+    }
+}
+
+/// The hart of a thread; none where there is no such hart.
+pub fn hart_of_thread(harts: u32, thread: u64) -> Option<u32>
+    ensures hart { result ≡ hart_of_thread harts thread }
+    ensures few { IfSome result (λ hart. hart < harts) }
+{
+    if thread == 0 || u64::from(harts) < thread {
+        return None;
+    }
+    let hart = (thread - 1) as u32;
+    Some(hart)
+}
+
+/// That something is done, or that there is no such thing.
+pub fn done_if(done: bool) -> Reply<'static>
+    ensures { payload_of result ≡ done_if done }
+{
+    if done { Reply::Done } else { Reply::Missing }
 }
 
 /// What is said of hart `number` at a moment, before the last round that there can be, by the hart alone: not whether it waits, and
@@ -47,17 +84,29 @@ fn told_stop(stop: Option<Stop>) -> Option<(u8, u64)>
     }
 }
 
-/// Why one stands at a hart, where there are breakpoints at these addresses.
-pub fn reason_of(stops: &[u64], hart: &Hart) -> Reason
-    ensures { result ≡ reason_of stops.now hart.now }
+/// Whether a hart has stopped, or isn't there.
+pub fn is_stopped(hart: Option<Hart>) -> bool
+    ensures { result ≡ is_stopped hart }
+{
+    match hart {
+        Some(hart) => hart.stop.is_some(),
+        None => true,
+    }
+}
+
+/// Why one stands at a hart, where there are software and hardware breakpoints at these addresses.
+pub fn reason_of(software: &[u64], hardware: &[u64], hart: &Hart) -> Reason
+    ensures { result ≡ reason_of software.now hardware.now hart.now }
 {
     if let Some(stop) = hart.stop
         && stop.code != 1
     {
         return Reason::Signal(signal_of(stop.code));
     }
-    if stops.contains(&hart.pc) {
+    if software.contains(&hart.pc) {
         Reason::Breakpoint
+    } else if hardware.contains(&hart.pc) {
+        Reason::HardwareBreakpoint
     } else {
         Reason::Step
     }

@@ -2,9 +2,11 @@
 #![tactic(auto)]
 
 mod own_part;
+mod refused;
 mod showing;
 mod timeline;
 
 pub use own_part::{OwnPart, part_at};
+pub use refused::of_memory;
 pub use showing::shown_at_side;
 pub use timeline::Timeline;

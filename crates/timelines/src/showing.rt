@@ -1,5 +1,4 @@
-ghost use Rattle.std.specs.Prelude.{◌≡◌, ◌+◌, ◌<◌, ◌^◌, ◌==◌, ◌&&◌, Some, IfOk, IfErr, length, slice_get};
-ghost use Rattle.host_io.specs.declared.error.RunError.TheVariants as refusals;
+ghost use Rattle.std.specs.Prelude.{◌≡◌, ◌+◌, ◌<◌, ◌^◌, ◌==◌, ◌&&◌, Some, IfOk, length, slice_get};
 ghost use Rattle.round_planner.specs.Quotas.{quotas_of};
 ghost use Rattle.round_schedule.specs.Past.{last_of};
 ghost use Rattle.hart_step.specs.Words.{words_of};
@@ -11,8 +10,8 @@ ghost use Rattle.timelines.specs.Shown.{behind_move, beside_part, beside_turn, e
 ghost use Rattle.past_harts.specs.Points.{is_behind_move};
 
 use crate::own_part::quota_of;
+use crate::refused::of_memory;
 use hart_step::Hart;
-use host_io::RunError;
 use machine::UntracedMachine;
 use moments::Sight;
 use pages::{OutOfMemory, Range};
@@ -29,13 +28,12 @@ fn shown<R: Threads + Wait + Sync>(
     code: &[Range],
     place: &Place,
     number: u32,
-) -> Result<Option<Sight>, RunError>
+) -> Result<Option<Sight>, OutOfMemory>
     requires run { (m : Running) × IsUntraced m machine.old }
     requires rounds { machine.old.rounds + 1 < 2 ^ 32 }
     ensures stays { machine.new ≡ machine.old }
     ensures sight { (m : Running) → IsUntraced m machine.old → m.code ≡ code.now →
         IfOk result (λ s. s ≡ shown_at m place.now number) }
-    ensures refused { IfErr result (λ e. e ≡ refusals.OutOfMemory) }
 {
     if number == place.hart {
         return mover(rt, machine, place);
@@ -54,10 +52,6 @@ fn shown<R: Threads + Wait + Sync>(
 }
 
 /// What hart `number` is and sees on a side of a place of the next round of a run; none where there is no such hart or place. It may wait.
-///
-/// # Errors
-///
-/// `OutOfMemory` alone.
 pub fn shown_at_side<R: Threads + Wait + Sync>(
     rt: &R,
     machine: &mut UntracedMachine,
@@ -65,13 +59,12 @@ pub fn shown_at_side<R: Threads + Wait + Sync>(
     side: Side,
     place: &Place,
     number: u32,
-) -> Result<Option<Sight>, RunError>
+) -> Result<Option<Sight>, OutOfMemory>
     requires run { (m : Running) × IsUntraced m machine.old }
     requires rounds { machine.old.rounds + 1 < 2 ^ 32 }
     ensures stays { machine.new ≡ machine.old }
     ensures sight { (m : Running) → IsUntraced m machine.old → m.code ≡ code.now →
         IfOk result (λ s. s ≡ shown_at_point m side place.now number) }
-    ensures refused { IfErr result (λ e. e ≡ refusals.OutOfMemory) }
 {
     if !is_its_move(side, place, number) {
         return shown(rt, machine, code, place, number);
@@ -143,14 +136,13 @@ fn beside_turn<R: Threads + Wait + Sync>(
     place: &Place,
     number: u32,
     hart: Hart,
-) -> Result<Option<Sight>, RunError>
+) -> Result<Option<Sight>, OutOfMemory>
     requires run { (m : Running) × IsUntraced m machine.old }
     requires rounds { machine.old.rounds + 1 < 2 ^ 32 }
     requires hart { number < length machine.old.harts }
     ensures stays { machine.new ≡ machine.old }
     ensures sight { (m : Running) → IsUntraced m machine.old → m.code ≡ code.now →
         IfOk result (λ s. s ≡ beside_turn m place.now number hart) }
-    ensures refused { IfErr result (λ e. e ≡ refusals.OutOfMemory) }
 {
     let Some(sight) = mover(rt, machine, place)? else {
         return Ok(None);
@@ -167,14 +159,13 @@ fn hart_beside<R: Threads + Wait + Sync>(
     place: &Place,
     number: u32,
     hart: Hart,
-) -> Result<Hart, RunError>
+) -> Result<Hart, OutOfMemory>
     requires run { (m : Running) × IsUntraced m machine.old }
     requires rounds { machine.old.rounds + 1 < 2 ^ 32 }
     requires hart { number < length machine.old.harts }
     ensures stays { machine.new ≡ machine.old }
     ensures hart { (m : Running) → IsUntraced m machine.old → m.code ≡ code.now →
         IfOk result (λ h. hart_beside m place.now number hart ≡ Some h) }
-    ensures refused { IfErr result (λ e. e ≡ refusals.OutOfMemory) }
 {
     if number < place.hart {
         return after_its_turn(rt, machine, number);
@@ -188,16 +179,15 @@ fn mover<R: Threads + Wait + Sync>(
     rt: &R,
     machine: &mut UntracedMachine,
     place: &Place,
-) -> Result<Option<Sight>, RunError>
+) -> Result<Option<Sight>, OutOfMemory>
     requires run { (m : Running) × IsUntraced m machine.old }
     requires rounds { machine.old.rounds + 1 < 2 ^ 32 }
     ensures stays { machine.new ≡ machine.old }
     ensures sight { (m : Running) → IsUntraced m machine.old →
         IfOk result (λ s. s ≡ mover m place.now) }
-    ensures refused { IfErr result (λ e. e ≡ refusals.OutOfMemory) }
 {
-    let copy = machine.share()?;
-    sight_after(rt, copy, place.hart, place.count, 1)
+    let copy = of_memory(machine.share())?;
+    of_memory(sight_after(rt, copy, place.hart, place.count, 1))
 }
 
 /// A hart before the round.
@@ -247,16 +237,15 @@ fn after_its_turn<R: Threads + Wait + Sync>(
     rt: &R,
     machine: &mut UntracedMachine,
     number: u32,
-) -> Result<Hart, RunError>
+) -> Result<Hart, OutOfMemory>
     requires run { (m : Running) × IsUntraced m machine.old }
     requires rounds { machine.old.rounds + 1 < 2 ^ 32 }
     requires hart { number < length machine.old.harts }
     ensures stays { machine.new ≡ machine.old }
     ensures hart { (m : Running) → IsUntraced m machine.old →
         IfOk result (λ h. slice_get (after_round m).state.harts number ≡ Some h) }
-    ensures refused { IfErr result (λ e. e ≡ refusals.OutOfMemory) }
 {
-    let mut copy = machine.share()?;
+    let mut copy = of_memory(machine.share())?;
     let hart = hart_after_round(rt, &mut copy, number);
     drop(copy);
     hart
@@ -267,17 +256,16 @@ fn hart_after_round<R: Threads + Wait + Sync>(
     rt: &R,
     machine: &mut UntracedMachine,
     number: u32,
-) -> Result<Hart, RunError>
+) -> Result<Hart, OutOfMemory>
     requires run { (m : Running) × IsUntraced m machine.old }
     requires rounds { machine.old.rounds + 1 < 2 ^ 32 }
     requires hart { number < length machine.old.harts }
-    ensures hart { (m : Running) → IsUntraced m machine.old →
+    ensures { (m : Running) → IsUntraced m machine.old →
         IfOk result (λ h. slice_get (after_round m).state.harts number ≡ Some h) }
-    ensures refused { IfErr result (λ e. e ≡ refusals.OutOfMemory) }
 {
     // As many as the plan says, before the round and after it.
     let _harts = machine.harts();
-    machine.run(rt, 1, 1)?;
+    of_memory(machine.run(rt, 1, 1))?;
     let harts = machine.harts();
     Ok(harts[number as usize])
 }

@@ -1,5 +1,4 @@
-ghost use Rattle.std.specs.Prelude.{◌≡◌, ◌≤◌, ◌+◌, ◌-◌, ◌<◌, ◌^◌, min, All, IfOk, IfErr, OnOk};
-ghost use Rattle.host_io.specs.declared.error.RunError.TheVariants as refusals;
+ghost use Rattle.std.specs.Prelude.{◌≡◌, ◌≤◌, ◌+◌, ◌-◌, ◌<◌, ◌^◌, min, All, IfOk, OnOk};
 ghost use Rattle.machine.specs.Machine.{Running, after_rounds};
 ghost use Rattle.machine.specs.Untraced.{IsUntraced, Untraced};
 ghost use Rattle.timelines.specs.OwnParts.{own_stores, waits_at};
@@ -9,11 +8,11 @@ ghost use Rattle.timelines.specs.Timelines.{IsThere};
 ghost use Rattle.round_schedule.specs.Bounds.{AreWorkers};
 
 use crate::own_part::{OwnPart, part_at};
+use crate::refused::of_memory;
 use crate::showing::shown_at_side;
-use host_io::RunError;
 use machine::UntracedMachine;
 use moments::Sight;
-use pages::Range;
+use pages::{OutOfMemory, Range};
 use past_harts::Point;
 use round_steps::{Telling, Told, nearest};
 use std::marker::Model;
@@ -74,25 +73,20 @@ impl Model for Timeline {
 
 impl Timeline {
     /// The run of a machine before its first round, which has this code.
-    ///
-    /// # Errors
-    ///
-    /// `OutOfMemory` alone.
     pub fn new(
         machine: UntracedMachine,
         code: Vec<Range>,
         rounds: u32,
-    ) -> Result<Timeline, RunError>
+    ) -> Result<Timeline, OutOfMemory>
         requires run { (m : Running) × IsUntraced m machine }
         requires fresh { machine.rounds ≡ 0 }
         requires code { (m : Running) → IsUntraced m machine → m.code ≡ code.items }
         requires rounds { rounds + 1 < 2 ^ 32 }
         ensures start { IfOk result (λ t. t.start ≡ machine) }
         ensures rounds { IfOk result (λ t. t.rounds ≡ rounds) }
-        ensures refused { IfErr result (λ e. e ≡ refusals.OutOfMemory) }
     {
         let mut start = machine;
-        let here = start.share()?;
+        let here = of_memory(start.share())?;
         let machines = Vec::new(start.pages().allocator());
         let apart = rounds_apart(rounds, start.pages().count());
         Ok(Timeline {
@@ -113,17 +107,13 @@ impl Timeline {
     }
 
     /// The earliest point behind another one at which something is told. Rounds are run on 1 to 16 workers. It may wait.
-    ///
-    /// # Errors
-    ///
-    /// `OutOfMemory` alone.
     pub fn next_point<R: Threads + Wait + Sync>(
         &mut self,
         rt: &R,
         telling: &Telling,
         here: &Point,
         workers: u32,
-    ) -> Result<Option<Told>, RunError>
+    ) -> Result<Option<Told>, OutOfMemory>
         requires within { here.now.moment.rounds ≤ self.old.rounds }
         requires workers { AreWorkers workers }
         ensures stays { self.new ≡ self.old }
@@ -131,17 +121,12 @@ impl Timeline {
             next_point_of telling.now.asked telling.now.watches.items
             (after_rounds here.now.moment.rounds m) (self.old.rounds - here.now.moment.rounds)
             here.now) }
-        ensures refused { IfErr result (λ e. e ≡ refusals.OutOfMemory) }
     {
         let begin = here.moment.rounds;
         self.earliest_in(rt, begin, self.rounds - begin, telling, here, workers)
     }
 
     /// The same in `count` rounds after `begin` others.
-    ///
-    /// # Errors
-    ///
-    /// `OutOfMemory` alone.
     pub fn earliest_in<R: Threads + Wait + Sync>(
         &mut self,
         rt: &R,
@@ -150,14 +135,13 @@ impl Timeline {
         telling: &Telling,
         here: &Point,
         workers: u32,
-    ) -> Result<Option<Told>, RunError>
+    ) -> Result<Option<Told>, OutOfMemory>
         requires within { begin + count ≤ self.old.rounds }
         requires workers { AreWorkers workers }
         ensures stays { self.new ≡ self.old }
         ensures next { (m : Running) → IsUntraced m self.old.start → IfOk result (λ x. x ≡
             next_point_of telling.now.asked telling.now.watches.items (after_rounds begin m) count
             here.now) }
-        ensures refused { IfErr result (λ e. e ≡ refusals.OutOfMemory) }
     {
         let mut machine = self.machine_at(rt, begin, workers)?;
         let found = self.look_on(rt, &mut machine, count, telling, Way::On, here, workers);
@@ -166,24 +150,19 @@ impl Timeline {
     }
 
     /// The latest point before another one at which something is told. It may wait.
-    ///
-    /// # Errors
-    ///
-    /// `OutOfMemory` alone.
     pub fn previous_point<R: Threads + Wait + Sync>(
         &mut self,
         rt: &R,
         telling: &Telling,
         here: &Point,
         workers: u32,
-    ) -> Result<Option<Told>, RunError>
+    ) -> Result<Option<Told>, OutOfMemory>
         requires within { here.now.moment.rounds ≤ self.old.rounds }
         requires workers { AreWorkers workers }
         ensures stays { self.new ≡ self.old }
         ensures previous { (m : Running) → IsUntraced m self.old.start → IfOk result (λ x. x ≡
             previous_point_of telling.now.asked telling.now.watches.items m
             (min self.old.rounds (here.now.moment.rounds + 1)) here.now) }
-        ensures refused { IfErr result (λ e. e ≡ refusals.OutOfMemory) }
     {
         let mut end = self.rounds.min(here.moment.rounds.saturating_add(1));
         let mut size: u32 = 1;
@@ -199,10 +178,6 @@ impl Timeline {
     }
 
     /// The same in the rounds after `begin` others up to `end`.
-    ///
-    /// # Errors
-    ///
-    /// `OutOfMemory` alone.
     pub fn latest_in<R: Threads + Wait + Sync>(
         &mut self,
         rt: &R,
@@ -211,7 +186,7 @@ impl Timeline {
         telling: &Telling,
         here: &Point,
         workers: u32,
-    ) -> Result<Option<Told>, RunError>
+    ) -> Result<Option<Told>, OutOfMemory>
         requires order { begin ≤ end }
         requires within { end ≤ self.old.rounds }
         requires workers { AreWorkers workers }
@@ -219,7 +194,6 @@ impl Timeline {
         ensures previous { (m : Running) → IsUntraced m self.old.start → IfOk result (λ x. x ≡
             previous_point_of telling.now.asked telling.now.watches.items
             (after_rounds begin m) (end - begin) here.now) }
-        ensures refused { IfErr result (λ e. e ≡ refusals.OutOfMemory) }
     {
         let mut machine = self.machine_at(rt, begin, workers)?;
         let rounds = end - begin;
@@ -238,7 +212,7 @@ impl Timeline {
         way: Way,
         here: &Point,
         workers: u32,
-    ) -> Result<Option<Told>, RunError>
+    ) -> Result<Option<Told>, OutOfMemory>
         requires there { IsThere self.old.start machine.old }
         requires within { machine.old.rounds + rounds ≤ self.old.rounds }
         requires workers { AreWorkers workers }
@@ -247,10 +221,9 @@ impl Timeline {
             IfOk result (λ x. x ≡ nearest_point_of way
             telling.now.asked telling.now.watches.items (after_rounds machine.old.rounds m) rounds
             here.now) }
-        ensures refused { IfErr result (λ e. e ≡ refusals.OutOfMemory) }
     {
         let code = self.code();
-        let found = nearest(rt, machine, code, rounds, telling, way, here, workers)?;
+        let found = of_memory(nearest(rt, machine, code, rounds, telling, way, here, workers))?;
         if way == Way::Back || found.is_none() {
             self.keep(machine)?;
         }
@@ -258,23 +231,18 @@ impl Timeline {
     }
 
     /// What hart `number` is and sees at a point; none where there is no such hart or moment. It may wait.
-    ///
-    /// # Errors
-    ///
-    /// `OutOfMemory` alone.
     pub fn shown_at<R: Threads + Wait + Sync>(
         &mut self,
         rt: &R,
         point: &Point,
         number: u32,
         workers: u32,
-    ) -> Result<Option<Sight>, RunError>
+    ) -> Result<Option<Sight>, OutOfMemory>
         requires within { point.now.moment.rounds ≤ self.old.rounds }
         requires workers { AreWorkers workers }
         ensures stays { self.new ≡ self.old }
         ensures sight { (m : Running) → IsUntraced m self.old.start →
             IfOk result (λ s. s ≡ seen m point.now number) }
-        ensures refused { IfErr result (λ e. e ≡ refusals.OutOfMemory) }
     {
         let moment = point.moment;
         let mut machine = self.machine_at(rt, moment.rounds, workers)?;
@@ -286,17 +254,13 @@ impl Timeline {
 
     /// What hart `number` has done of its part of the parallel phase at a point: its stores that are not committed, and whether it waits
     /// for its serial turn. It may wait.
-    ///
-    /// # Errors
-    ///
-    /// `OutOfMemory` alone.
     pub fn own_part_at<R: Threads + Wait + Sync>(
         &mut self,
         rt: &R,
         point: &Point,
         number: u32,
         workers: u32,
-    ) -> Result<OwnPart, RunError>
+    ) -> Result<OwnPart, OutOfMemory>
         requires within { point.now.moment.rounds ≤ self.old.rounds }
         requires workers { AreWorkers workers }
         ensures stays { self.new ≡ self.old }
@@ -306,7 +270,6 @@ impl Timeline {
         ensures waits { (m : Running) → IsUntraced m self.old.start →
             IfOk result (λ p. p.waits ≡ waits_at
             (after_rounds point.now.moment.rounds m) point.now.moment.place number) }
-        ensures refused { IfErr result (λ e. e ≡ refusals.OutOfMemory) }
     {
         let moment = point.moment;
         let machine = self.machine_at(rt, moment.rounds, workers)?;
@@ -343,25 +306,20 @@ impl Timeline {
     }
 
     /// The machine after so many rounds, to look further. It may wait.
-    ///
-    /// # Errors
-    ///
-    /// `OutOfMemory` alone.
     pub fn machine_at<R: Threads + Wait + Sync>(
         &mut self,
         rt: &R,
         rounds: u32,
         workers: u32,
-    ) -> Result<UntracedMachine, RunError>
+    ) -> Result<UntracedMachine, OutOfMemory>
         requires within { rounds ≤ self.old.rounds }
         requires workers { AreWorkers workers }
         ensures stays { self.new ≡ self.old }
         ensures machine { (m : Running) → IsUntraced m self.old.start →
             IfOk result (λ u. IsUntraced (after_rounds rounds m) u) }
         ensures rounds { IfOk result (λ u. u.rounds ≡ rounds) }
-        ensures refused { IfErr result (λ e. e ≡ refusals.OutOfMemory) }
     {
-        let mut machine = self.nearest(rounds).copy()?;
+        let mut machine = of_memory(self.nearest(rounds).copy())?;
         self.go_to(rt, &mut machine, rounds, workers)?;
         Ok(machine)
     }
@@ -373,7 +331,7 @@ impl Timeline {
         machine: &mut UntracedMachine,
         rounds: u32,
         workers: u32,
-    ) -> Result<(), RunError>
+    ) -> Result<(), OutOfMemory>
         requires there { IsThere self.old.start machine.old }
         requires before { machine.old.rounds ≤ rounds }
         requires within { rounds ≤ self.old.rounds }
@@ -381,24 +339,22 @@ impl Timeline {
         ensures stays { self.new ≡ self.old }
         ensures there { OnOk result (IsThere self.old.start machine.new) }
         ensures rounds { OnOk result (machine.new.rounds ≡ rounds) }
-        ensures refused { IfErr result (λ e. e ≡ refusals.OutOfMemory) }
     {
         while machine.rounds() < rounds {
             let more = self.apart.min(rounds - machine.rounds());
-            machine.run(rt, more, workers)?;
+            of_memory(machine.run(rt, more, workers))?;
             self.keep(machine)?;
         }
         Ok(())
     }
 
     /// Keeps a machine to go on from: until another one is looked at, and for good where it is far enough behind those that are kept.
-    fn keep(&mut self, machine: &mut UntracedMachine) -> Result<(), RunError>
+    fn keep(&mut self, machine: &mut UntracedMachine) -> Result<(), OutOfMemory>
         requires there { IsThere self.old.start machine.old }
         ensures stays { self.new ≡ self.old }
         ensures same { machine.new ≡ machine.old }
-        ensures refused { IfErr result (λ e. e ≡ refusals.OutOfMemory) }
     {
-        self.here = machine.share()?;
+        self.here = of_memory(machine.share())?;
         keep_far(&mut self.machines, self.apart, machine)
     }
 }
@@ -408,20 +364,19 @@ fn keep_far(
     machines: &mut Vec<UntracedMachine>,
     apart: u32,
     machine: &mut UntracedMachine,
-) -> Result<(), RunError>
+) -> Result<(), OutOfMemory>
     ensures there { (start : Untraced) → All (IsThere start) machines.old.items →
         IsThere start machine.old →
         All (IsThere start) machines.new.items }
     ensures same { machine.new ≡ machine.old }
-    ensures refused { IfErr result (λ e. e ≡ refusals.OutOfMemory) }
 {
     if machines.len() >= MOST_MACHINES as usize || !is_far(machines, apart, machine.rounds()) {
         return Ok(());
     }
-    let copy = machine.share()?;
+    let copy = of_memory(machine.share())?;
     match machines.push(copy) {
         Ok(()) => Ok(()),
-        Err(_) => Err(RunError::OutOfMemory),
+        Err(_) => Err(OutOfMemory),
     }
 }
 

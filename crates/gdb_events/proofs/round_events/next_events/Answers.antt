@@ -11,9 +11,11 @@ run_noting-requires-after_bounds g c κs within =
 
 pub returns-clause-events : goal.returns-clause-events
 returns-clause-events g c = λ m is.
+    let ran = rw c.in_ok-of_memory.ensures at c.run_noting.ensures in
     c.in_ok-events.ensures.events
-    ∙ events_are m c.args.machine.now c.new-trace.result.events c.run_noting.new.trace.events is c.new-trace.ensures.events c.in_ok-run_noting.ensures.answers.ok.1
+    ∙ events_are m c.args.machine.now c.new-trace.result.events c.run_noting.new.trace.events is c.new-trace.ensures.events ran.answers.ok.1
 
 pub returns-clause-trace : goal.returns-clause-trace
 returns-clause-trace g c = λ m is.
-    events_added m c.args.machine.now c.new-trace.result.events c.run_noting.new.trace.events is c.in_ok-run_noting.ensures.answers.ok.1
+    let ran = rw c.in_ok-of_memory.ensures at c.run_noting.ensures in
+    events_added m c.args.machine.now c.new-trace.result.events c.run_noting.new.trace.events is ran.answers.ok.1

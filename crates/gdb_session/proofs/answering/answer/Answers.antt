@@ -1,8 +1,11 @@
-use Rattle.std.proofs.Common.{refl, subst, sym}
-use Rattle.std.proofs.lemmas.Result.{on_ok_weaker}
+use Rattle.std.proofs.Common.{rules, subst, sym}
+use Rattle.std.specs.Prelude.{IfOk}
+use Rattle.std.proofs.lemmas.Result.{IfOk-weaker}
+use Rattle.gdb_packets.specs.declared.request.Request.{Request}
 use Rattle.gdb_runs.specs.declared.session.Standing.{Standing}
 use Rattle.gdb_runs.specs.Sessions.{IsReady, recorded_of, state_of}
-use Rattle.gdb_session.proofs.Arriving.{command_answered, replied, step_answered}
+use Rattle.gdb_session.specs.Answers.{Answers}
+use Rattle.gdb_session.proofs.Arriving.{replied, step_answered}
 use Rattle.gdb_session.proofs.answering.answer.Goals as goal
 
 pub returns-in-AddStop-clause-ready : goal.returns-in-AddStop-clause-ready
@@ -13,25 +16,23 @@ returns-in-AddStop-clause-answers g c = λ m is. c.change_stops.ensures.answers 
 
 pub returns-in-Step-clause-answers : goal.returns-in-Step-clause-answers
 returns-in-Step-clause-answers g c = λ m is.
-    on_ok_weaker c.resume.result
-    (step_answered (recorded_of m c.args.run.now) (state_of c.args.session.now) (g.K.Sink.took c.args.out.now) (g.K.Sink.took c.resume.new.out)
-    (state_of c.resume.new.session) c.args.request c.in-Step.is)
+    IfOk-weaker c.resume.result _ _
+    (λ text. step_answered (recorded_of m c.args.run.now) (state_of c.args.session.now) text.items (state_of c.resume.new.session) c.args.request c.in-Step.is)
     (c.resume.ensures.resumes m is)
 
 pub returns-in-Command-clause-answers : goal.returns-in-Command-clause-answers
 returns-in-Command-clause-answers g c = λ m is.
-    on_ok_weaker c.answer_command.result
-    (command_answered (recorded_of m c.args.run.now) (state_of c.args.session.now) c.args.request c.in-Command.command (g.K.Sink.took c.args.out.now)
-    (g.K.Sink.took c.answer_command.new.out) (state_of c.answer_command.new.session) c.in-Command.is)
-    (c.answer_command.ensures.answers m is)
+    let A : Request → Type 0 = λ q. IfOk c.answer_command.result
+    (λ text. Answers (recorded_of m c.args.run.now) (state_of c.args.session.now) q text.items (state_of c.answer_command.new.session)) in
+    subst A (sym c.in-Command.is) (c.answer_command.ensures.answers m is)
 
 pub returns-in_default : goal.returns-in_default
 returns-in_default g c = record {
   stays = c.reply_to.ensures.stays;
   ready = c.requires.ready;
   answers = λ m is.
-      on_ok_weaker c.reply_to.result
-      (replied (recorded_of m c.args.run.now) (state_of c.args.session.now) c.args.request (g.K.Sink.took c.args.out.now) (g.K.Sink.took c.reply_to.new.out))
-      (c.reply_to.ensures.writes m is);
-  refused = λ e. (c.reply_to.ensures.memory e, refl);
+      IfOk-weaker c.reply_to.result _ _
+      (λ text. replied (recorded_of m c.args.run.now) (state_of c.args.session.now) c.args.request text.items)
+      (c.reply_to.ensures.replies m is);
+  refused = search rules;
 }

@@ -1,4 +1,4 @@
-use Rattle.std.proofs.Common.{◌≡◌, ◌++◌}
+use Rattle.std.proofs.Common.{◌≡◌}
 use Rattle.hex.specs.Hex.{encode_lower}
 use Rattle.gdb_packets.specs.Writing.{packet_text}
 use Rattle.gdb_runs.specs.Sessions.{Recorded, recorded_of, state_of}
@@ -16,8 +16,7 @@ returns-clause-answers g c = λ m is.
     let d = c.args.run.now in
     let s = state_of c.args.session.now in
     let wanted = c.in_ok-goal.goal in
-    let took = g.K.Sink.took c.args.out.now in
-    let took_then = g.K.Sink.took c.say_goal.new.out in
-    let W : Recorded → Type 0 = λ r. took_then ≡ took ++ packet_text (encode_lower (goal_text r s.standing wanted)) in
-    goes_to (recorded_of m d) s c.args.command wanted c.goal_then-session.result took took_then c.requires.goes (c.in_ok-goal.ensures.goal m is) c.goal_then-session.ensures
-    (of_same d c.goal_of.new.run W c.in_ok-goal.ensures.stays c.in_ok-say_goal.ensures.writes m is)
+    let written = c.in_ok-text.text.items in
+    let W : Recorded → Type 0 = λ r. written ≡ packet_text (encode_lower (goal_text r s.standing wanted)) in
+    goes_to (recorded_of m d) s c.args.command wanted c.goal_then-session.result written c.requires.goes (c.in_ok-goal.ensures.goal m is) c.goal_then-session.ensures
+    (of_same d c.goal_of.new.run W c.in_ok-goal.ensures.stays c.in_ok-text.ensures m is)

@@ -5,7 +5,10 @@ pub returns-then-settings-clause-in_order : goal.returns-then-settings-clause-in
 returns-then-settings-clause-in_order c = refused_behind c.args.settings.now c.args.image.now c.in_ok-machine.machine _ c.in_ok-machine.ensures.in_order
 
 pub returns-in_err-code-clause-in_order : goal.returns-in_err-code-clause-in_order
-returns-in_err-code-clause-in_order c = refused_behind c.args.settings.now c.args.image.now c.in_ok-machine.machine c.from_residual-in_err-code.result c.in_ok-machine.ensures.in_order
+returns-in_err-code-clause-in_order c = refused_behind c.args.settings.now c.args.image.now c.in_ok-machine.machine _ c.in_ok-machine.ensures.in_order
+
+pub returns-in_err-new-clause-in_order : goal.returns-in_err-new-clause-in_order
+returns-in_err-new-clause-in_order c = refused_behind c.args.settings.now c.args.image.now c.in_ok-machine.machine _ c.in_ok-machine.ensures.in_order
 
 pub returns-clause-in_order : goal.returns-clause-in_order
-returns-clause-in_order c = refused_behind c.args.settings.now c.args.image.now c.in_ok-machine.machine c.new.result c.in_ok-machine.ensures.in_order
+returns-clause-in_order c = refused_behind c.args.settings.now c.args.image.now c.in_ok-machine.machine _ c.in_ok-machine.ensures.in_order

@@ -1,4 +1,5 @@
-use Rattle.std.proofs.Common.{◌≡◌, ◌++◌, ℕ, List, OnOk, subst, sym}
+use Rattle.std.proofs.Common.{◌≡◌, ℕ, List, subst, sym}
+use Rattle.std.specs.Prelude.{IfOk}
 use Rattle.machine.specs.Untraced.{IsUntraced, Untraced}
 use Rattle.gdb_packets.specs.Writing.{packet_text}
 use Rattle.gdb_runs.specs.Sessions.{recorded_of}
@@ -10,13 +11,10 @@ answer_event-requires-clause-run g c κs within =
     let ready = c.requires.ready in
     (ready.run.0, subst (λ (u : Untraced). IsUntraced ready.run.0 u) ready.start ready.run.1)
 
-pub returns-in_default-clause-writes : goal.returns-in_default-clause-writes
-returns-in_default-clause-writes g c = λ m is.
-    let r = recorded_of m c.args.run.now in
-    let took = g.K.Sink.took c.args.out.now in
-    let after = g.K.Sink.took c.write_reply-in_default.new.out in
-    let P : List ℕ → Type 0 = λ said. OnOk c.write_reply-in_default.result (after ≡ took ++ packet_text said) in
+pub returns-in_default-clause-text : goal.returns-in_default-clause-text
+returns-in_default-clause-text g c = λ m is.
+    let P : List ℕ → Type 0 = λ said. IfOk c.reply_text-in_default.result (λ text. text.items ≡ packet_text said) in
     let other = c.in_default in
     subst P
-    (sym (no_command r c.args.standing c.args.command other.not-Where other.not-Harts other.not-Buffer other.not-Event other.not-Reservations other.not-Plan other.not-Output other.not-Help))
-    c.write_reply-in_default.ensures.writes.ok
+    (sym (no_command (recorded_of m c.args.run.now) c.args.standing c.args.command other.not-Where other.not-Harts other.not-Buffer other.not-Event other.not-Reservations other.not-Plan other.not-Output other.not-Help))
+    c.reply_text-in_default.ensures

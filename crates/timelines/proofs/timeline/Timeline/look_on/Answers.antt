@@ -14,22 +14,25 @@ pub keep-requires : goal.keep-requires
 keep-requires g c =
     let t = c.args.telling.now in
     let u : Untraced = c.args.machine.now in
+    let found = rw c.in_ok-found.ensures at c.nearest.ensures in
     record {
       there = λ m is.
           searched_there c.args.way t.asked t.watches.items m c.args.rounds c.args.here.now u c.nearest.new.machine c.in_ok-found.found
-          (c.in_ok-found.ensures.nearest (after_rounds u.rounds m) (c.requires.there m is) (c.code-code.ensures.code m is));
+          (found.nearest (after_rounds u.rounds m) (c.requires.there m is) (c.code-code.ensures.code m is));
     }
 
 pub returns-in_ok-keep-clause-nearest : goal.returns-in_ok-keep-clause-nearest
 returns-in_ok-keep-clause-nearest g c = λ m is.
     let t = c.args.telling.now in
     let u : Untraced = c.args.machine.now in
+    let found = rw c.in_ok-found.ensures at c.nearest.ensures in
     found_one_way c.args.way t.asked t.watches.items (after_rounds u.rounds m) c.args.rounds c.args.here.now u c.nearest.new.machine c.in_ok-found.found
-    (c.in_ok-found.ensures.nearest (after_rounds u.rounds m) (c.requires.there m is) (c.code-code.ensures.code m is))
+    (found.nearest (after_rounds u.rounds m) (c.requires.there m is) (c.code-code.ensures.code m is))
 
 pub returns-else-is_none-clause-nearest : goal.returns-else-is_none-clause-nearest
 returns-else-is_none-clause-nearest g c = λ m is.
     let t = c.args.telling.now in
     let u : Untraced = c.args.machine.now in
+    let found = rw c.in_ok-found.ensures at c.nearest.ensures in
     found_one_way c.args.way t.asked t.watches.items (after_rounds u.rounds m) c.args.rounds c.args.here.now u c.nearest.new.machine c.in_ok-found.found
-    (c.in_ok-found.ensures.nearest (after_rounds u.rounds m) (c.requires.there m is) (c.code-code.ensures.code m is))
+    (found.nearest (after_rounds u.rounds m) (c.requires.there m is) (c.code-code.ensures.code m is))
