@@ -7,7 +7,7 @@ use Rattle.round_schedule.specs.Accesses.{address_of, bytes_of, is_lr, is_sc, lo
 use Rattle.round_schedule.specs.Held.{held_after_own}
 use Rattle.memory_order.specs.declared.registers.Registers.{Registers}
 use Rattle.memory_order.specs.Operations.{covers, is_amo}
-use Rattle.rule_checker.specs.CarriedBounds.{AllowedBy, carried_after, destination_with}
+use Rattle.rule_checker.specs.CarriedBounds.{AllowedBy, carried_after}
 use Rattle.rule_checker.specs.Kinds.{AllowedByKind, kinds_after}
 use Rattle.rule_checker.specs.declared.annotated.KindBounds.{KindBounds}
 use Rattle.rule_checker.specs.declared.carried.Carried.{Carried}
@@ -94,15 +94,6 @@ held_bare (StoreConditional w o p y None) s = refl
 held_bare (StoreConditional w o p y (Some v)) s = refl
 held_bare (Atomic w o p y r v) s = refl
 held_bare (Fence d e m p) s = refl
-
-pub destination_bare : (a : Access) (x : Registers) → destination_with x (bare a) ≡ destination_with x a
-destination_bare (Load w p y r) x = refl
-destination_bare (Store w p y v) x = refl
-destination_bare (LoadReserved w o p y r) x = refl
-destination_bare (StoreConditional w o p y None) x = refl
-destination_bare (StoreConditional w o p y (Some v)) x = refl
-destination_bare (Atomic w o p y r v) x = refl
-destination_bare (Fence d e m p) x = refl
 
 pub kinds_bare : (a : Access) (b : KindBounds) (o : Bool) (n : ℕ) → kinds_after b (bare a) o n ≡ kinds_after b a o n
 kinds_bare (Load w p y r) b is n = refl

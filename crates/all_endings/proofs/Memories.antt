@@ -27,10 +27,6 @@ one_first s m mem x (suc k) = more (has_byte (get_or m k no_store) x) (one_first
     more true r = refl
     more false r = r
 
-opening_same : (m : List Stored) (f g : ℕ → ℕ) (x p : ℕ) → f x ≡ g x → byte_at m f x p ≡ byte_at m g x p
-opening_same m f g x zero e = e
-opening_same m f g x (suc p) e = refl
-
 after_same : (t : List Event) (g : List ℕ) (f k : ℕ → ℕ) → ((y : ℕ) → f y ≡ k y) → (x : ℕ) → memory_after t g f x ≡ memory_after t g k x
 after_same t [] f k same x = same x
 after_same t (a ∷ g) f k same x = after_same t g _ _ (λ y. by_test (writes_at t a y) y) x

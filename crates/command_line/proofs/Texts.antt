@@ -1,9 +1,5 @@
 -- A text with a default, as text, a text with a front that may be there, and an answer that is none.
-use Rattle.std.proofs.Common.{◌≡◌, ◌∙◌, ℕ, Bool, List, Option, Some, None, Bor, true, false, refl, sym, ap, subst, nat_eq, not, option_map, true≢false, unwrap_or}
-use Rattle.std.specs.Str.{IsCharBoundary}
-use Rattle.std.specs.Str.Pattern.{FindsTextPrefix, StripsPrefix}
-use Rattle.std.specs.List.{starts_with}
-use Rattle.std.proofs.lemmas.Str.Pattern.{starts_text}
+use Rattle.std.proofs.Common.{◌≡◌, ◌∙◌, ℕ, Bool, List, Option, Some, None, Bor, true, false, refl, sym, ap, not, option_map, true≢false, unwrap_or}
 
 pub text_or : (found : Option (Bor (List ℕ))) (default result : Bor (List ℕ)) (text : Option (List ℕ)) → result ≡ unwrap_or found default
     → option_map (λ s. s.now) found ≡ text → result.now ≡ unwrap_or text default.now
@@ -12,12 +8,6 @@ text_or found default result text is shows = ap (λ s. s.now) is ∙ go found �
     go : (o : Option (Bor (List ℕ))) → (unwrap_or o default).now ≡ unwrap_or (option_map (λ s. s.now) o) default.now
     go None = refl
     go (Some s) = refl
-
-pub has_front : (front text rest : List ℕ) → StripsPrefix (FindsTextPrefix front) text rest → true ≡ starts_with nat_eq text front
-has_front front text rest h = starts_text true front text (h.0, h.1, subst (λ k. IsCharBoundary text k) (sym h.1.0) h.1.2)
-
-pub lacks_front : (front text : List ℕ) → FindsTextPrefix front text None → false ≡ starts_with nat_eq text front
-lacks_front front text h = starts_text false front text h
 
 pub turned : (a b : Bool) → a ≡ not b → b ≡ not a
 turned true true e = absurd (true≢false e)

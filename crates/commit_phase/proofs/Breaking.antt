@@ -10,11 +10,6 @@ no_byte : (f : ℕ → Bool) (a n : ℕ) → ((x : ℕ) → f x ≡ false) → a
 no_byte f a zero h = refl
 no_byte f a (suc n) h = ap (λ (b : Bool). b || any_byte f (a + 1) n) (h a) ∙ no_byte f (a + 1) n h
 
--- a test that never passes breaks nothing
-pub unless_never : (f : ℕ → Bool) (r : Option Span) → ((x : ℕ) → f x ≡ false) → unless f r ≡ r
-unless_never f None h = refl
-unless_never f (Some s) h = ap (λ (b : Bool). cond b None (Some s)) (no_byte f s.address (width_bytes s.width) h)
-
 same_bytes : (f g : ℕ → Bool) (a n : ℕ) → ((x : ℕ) → f x ≡ g x) → any_byte f a n ≡ any_byte g a n
 same_bytes f g a zero h = refl
 same_bytes f g a (suc n) h = ap (λ (b : Bool). b || any_byte f (a + 1) n) (h a) ∙ ap (λ (b : Bool). g a || b) (same_bytes f g (a + 1) n h)
@@ -55,9 +50,6 @@ pub record Breaking (i : ℕ) (ss rest : List Store) (old now : List (Option Spa
   pub size : length now ≡ length old
   pub each : (h : ℕ) → h < length old → left_of i rest h (entry now h) ≡ left_of i ss h (entry old h)
 
-pub breaking_first : (i : ℕ) (ss : List Store) (old : List (Option Span)) → Breaking i ss ss old old
-breaking_first i ss old = record { size = refl; each = λ h low. refl }
-
 one_store : (t : Bool) (s : Store) (rest : List Store) (r : Option Span) → cond t (cond t r (unless (covers s) r)) (unless (covered rest) (cond t r (unless (covers s) r))) ≡ cond t r (unless (covered (s ∷ rest)) r)
 one_store true s rest r = refl
 one_store false s rest r = unless_unless (covers s) (covered rest) r
@@ -69,13 +61,6 @@ breaking_next i ss rest s old now new b k = record {
       let there : h < length now = omega (arith, k.size) in
       ap (left_of i rest h) (b.each h there) ∙ one_store (i == h) s rest (entry now h) ∙ k.each h low;
 }
-
-nothing_left : (t : Bool) (r : Option Span) → cond t r (unless (covered []) r) ≡ r
-nothing_left true r = refl
-nothing_left false r = unless_never (covered []) r (λ x. refl)
-
-pub breaking_over : (i : ℕ) (ss : List Store) (old now : List (Option Span)) → Breaking i ss [] old now → (h : ℕ) → h < length old → entry now h ≡ left_of i ss h (entry old h)
-breaking_over i ss old now k h low = sym (nothing_left (i == h) (entry now h)) ∙ k.each h low
 
 -- what a buffer breaks, and then those after it
 pub one_buffer : (t : Bool) (f g : ℕ → Bool) (r : Option Span) → unless g (cond t r (unless f r)) ≡ unless (λ x. cond t false (f x) || g x) r

@@ -1,6 +1,6 @@
 -- The bytes that a line covers, written eight at a time.
 use Rattle.std.proofs.Common.{◌≡◌, ℕ, zero, suc, ◌+◌, ◌*◌, ◌/◌, ◌%◌, ◌^◌, ◌<◌, Bool, true, List, [], ◌∷◌, ◌++◌, Option, Some, None, refl, sym, ap, ◌∙◌, arith, All, set, subst, slice_index, ◌-◌, bit_and}
-use Rattle.std.proofs.lemmas.Bool.{eq-eqb, ne_eqb}
+use Rattle.std.proofs.lemmas.Bool.{eq-eqb}
 use Rattle.std.proofs.lemmas.List.Elements.{All-head, All-tail}
 use Rattle.std.proofs.lemmas.Nat.Bits.{shr_and_one}
 use Rattle.std.proofs.Math.Nat.{mod-eq_of_lt}
@@ -117,10 +117,6 @@ none_left a l j n e = ap (λ (x : ℕ). line_bytes a l j x) e
 pub word_none : (a : ℕ) (l : Line) (p : ℕ) → bit_and (l.mask / 2 ^ p) 255 ≡ 0 → word_bytes a l p ≡ []
 unfolding word_bytes
 word_none a l p e = line_bytes-none 8 a l p (none_covered l p 8 e)
-
-pub index_none : (a : ℕ) (l : Line) (j : ℕ) → (bit_and (l.mask / 2 ^ j) 1 ≡ 1 → ⊥) → index_bytes a l j ≡ []
-index_none a l j h =
-    ap (λ (t : Bool). put_first (a + j) (byte_if t (slice_index l.bytes j)) []) (ne_eqb (l.mask / 2 ^ j % 2) 1 (λ e. h (shr_and_one l.mask j ∙ e)))
 
 pub index_covered : (a : ℕ) (l : Line) (j : ℕ) → bit_and (l.mask / 2 ^ j) 1 ≡ 1 → index_bytes a l j ≡ (a + j, slice_index l.bytes j % 2 ^ 8) ∷ []
 index_covered a l j h =

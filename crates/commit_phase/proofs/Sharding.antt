@@ -4,7 +4,6 @@ use Rattle.std.proofs.lemmas.Bool.{cases_order}
 use Rattle.std.proofs.lemmas.List.Elements.{All-cons, All-head, All-nil, All-tail}
 use Rattle.std.proofs.lemmas.Bool.Decides.{nat_tests}
 use Rattle.std.proofs.lemmas.List.{append-nil, ext_get_or, map-append, length-set, get_or-set_same, get_or-set_other, get_or-map, length-map, take_all}
-use Rattle.std.specs.Fork.{IsChunk}
 use Rattle.std.proofs.Math.Seq.{map-set_same}
 use Rattle.pages.specs.declared.access.Store.{Store}
 use Rattle.pages.specs.Flat.{Page, absent, flat, full, is_ready, laid}
@@ -166,9 +165,6 @@ pub record Left (n : ℕ) (ps qs : List Page) (ss rest : List Store) : Type 0 wh
   pub ready : map is_ready qs ≡ map is_ready ps
   pub bytes : (k i : ℕ) → k < length ps → i < 4096 → last_byte (slice_index (full (page_at qs k)) i) rest (4096 * (n + k) + i) ≡ last_byte (slice_index (full (page_at ps k)) i) ss (4096 * (n + k) + i)
 
-pub left_begun : (n : ℕ) (ps : List Page) (ss : List Store) → Left n ps ps ss ss
-left_begun n ps ss = record { count = refl; ready = refl; bytes = λ k i low less. refl }
-
 pub left_past : (n : ℕ) (ps qs rs : List Page) (ss now rest : List Store) → ShardWritten n now qs rs → Left n ps qs ss (now ++ rest) → Left n ps rs ss rest
 left_past n ps qs rs ss now rest w k = record {
   count = w.count ∙ k.count;
@@ -177,13 +173,6 @@ left_past n ps qs rs ss now rest w k = record {
       ap (λ (b : ℕ). last_byte b rest (4096 * (n + j) + i)) (w.bytes j i (omega (arith, k.count)) less)
       ∙ sym (last_byte-append (slice_index (full (page_at qs j)) i) now rest (4096 * (n + j) + i))
       ∙ k.bytes j i low less;
-}
-
-pub left_over : (n : ℕ) (ps qs : List Page) (ss rest : List Store) → rest ≡ [] → Left n ps qs ss rest → ShardWritten n ss ps qs
-left_over n ps qs ss rest none k = record {
-  count = k.count;
-  ready = k.ready;
-  bytes = λ j i low less. ap (λ (ts : List Store). last_byte (slice_index (full (page_at qs j)) i) ts (4096 * (n + j) + i)) (sym none) ∙ k.bytes j i low less;
 }
 
 pub left_same : (n : ℕ) (ps qs : List Page) (ss rest ts : List Store) → rest ≡ ts → Left n ps qs ss rest → Left n ps qs ss ts
@@ -247,14 +236,6 @@ ready_back p ps qs ss e w =
     laid_all p.ready (map is_ready qs) (ap length (w.ready ∙ e)) ∙ w.ready ∙ e
 
 -- ---- shards as chunks of the pages
-
--- the pages of a chunk are those of the whole
-pub chunk_ready : (ps qs : List Page) (size start : ℕ) (es : List (ℕ × ℕ)) → IsChunk ps size start qs → IsShardReady 0 ps es → IsShardReady start qs es
-chunk_ready ps qs size start es c h = λ k d low from to.
-    let x : ℕ = (get_or es k d).0 / 4096 in
-    let inside : x - start < length qs = omega arith in
-    let at : start + (x - start) ≡ x - 0 = omega arith in
-    ap is_ready (c.elements (x - start) absent inside) ∙ ap (λ (i : ℕ). is_ready (page_at ps i)) at ∙ h k d low (omega arith) (omega (arith, c.in_bounds))
 
 -- a page in a chunk, which was written as a shard
 pub record InShard (ps qs : List Page) (ss : List Store) (k : ℕ) : Type 0 where

@@ -40,11 +40,6 @@ writing_past p q r es now more w k =
       may = All-after (λ (e : ℕ × ℕ). is_ready p ≡ true) now more k.may;
     }
 
--- nothing is left
-pub writing_over : (p q : Page) (es rest : List (ℕ × ℕ)) → rest ≡ [] → Writing p q es rest → Written es p q
-writing_over p q es rest none k =
-    record { bytes = ap (λ (fs : List (ℕ × ℕ)). after (full q) (stores_of fs)) (sym none) ∙ k.bytes; ready = k.ready }
-
 -- the same rest in other words
 pub writing_same : (p q : Page) (es rest fs : List (ℕ × ℕ)) → rest ≡ fs → Writing p q es rest → Writing p q es fs
 writing_same p q es rest fs e k = subst (λ (gs : List (ℕ × ℕ)). Writing p q es gs) e k

@@ -5,7 +5,7 @@ use Rattle.debug_commands.specs.Debuggees.{IsDebuggee, IsDebuggeeOf, IsGood}
 use Rattle.debug_commands.specs.declared.debuggee.Debuggee.{Debuggee}
 use Rattle.debug_commands.specs.declared.debuggee.Debuggee.TheVariants as debuggees
 use Rattle.host_io.specs.Taken.{BeganText}
-use Rattle.past_commands.proofs.Printing.{began_first, began_nothing, began_second}
+use Rattle.past_commands.proofs.Printing.{began_first, began_second}
 use Rattle.past_commands.specs.declared.past.Past.{Past}
 use Rattle.past_commands.specs.declared.past.Past.TheVariants as pasts
 use Rattle.program_files.proofs.Begun.{whole}
@@ -16,9 +16,6 @@ use Rattle.program_files.proofs.Begun.{whole}
 pub began_either : {X E : Type 0} (r : Result X E) (old new text : List ℕ) → OnOk r (new ≡ old ++ text) → OnErr r (BeganText old new text) → BeganText old new text
 began_either (Ok v) old new text ok begun = whole old new text ok
 began_either (Err e) old new text ok begun = begun
-
-pub told_nothing : (number : ℕ) (told : List ℕ) → IsToldRefusal number told told
-told_nothing number told = ([], began_nothing told (error_line number ++ []))
 
 pub told_line : (number : ℕ) (told new : List ℕ) → BeganText told new (error_line number) → IsToldRefusal number told new
 told_line number told new begun = ([], began_first told new (error_line number) [] begun)

@@ -1,5 +1,5 @@
 -- The status of a command, by that of its answer.
-use Rattle.std.proofs.Common.{◌≡◌, ◌⊎◌, ℕ, List, Err, IfErr, IfOk, Ok, Result, inl, inr, refl, subst, sym, ⊎_elim}
+use Rattle.std.proofs.Common.{◌≡◌, ◌⊎◌, ℕ, List, Err, IfErr, IfOk, Ok, Result, inl, inr, subst, sym, ⊎_elim}
 use Rattle.clap.specs.Words.{IsAmong, kind_of}
 use Rattle.clap.specs.declared.error.Error.{Error}
 use Rattle.clap.specs.declared.error.kind.ErrorKind.{ErrorKind}
@@ -7,11 +7,9 @@ use Rattle.clap.specs.declared.error.kind.ErrorKind.TheVariants.{DisplayHelp, Di
 use Rattle.command_line.specs.Faults.{line_fault}
 use Rattle.command_line.specs.declared.settings.Command.{Command}
 use Rattle.dethart.specs.Answers.{AskForText, FileRelations, IsDoneBy, OrRefused}
-use Rattle.dethart.specs.Status.{status_of}
-use Rattle.dethart.specs.declared.failure.Failure.{Failure}
 use Rattle.dethart.specs.declared.failure.Failure.TheVariants as failures
 use Rattle.program_files.specs.declared.exit_status.ExitStatus.{ExitStatus}
-use Rattle.program_files.specs.declared.exit_status.ExitStatus.TheVariants.{BadLine, Refused}
+use Rattle.program_files.specs.declared.exit_status.ExitStatus.TheVariants.{Refused}
 
 -- what is promised of an answer is so of the status, which is that of the answer or of a refusal
 pub finished : {E : Type 0} (r : Result ExitStatus E) (IsDone : ExitStatus → Type 0) (status : ExitStatus) →
@@ -24,13 +22,6 @@ pub done_by : {E : Type 0} (f : FileRelations) (command other : Command) (r : Re
     ((s : ExitStatus) → P s → IsDoneBy f other s) → IfOk r P → IfOk r (IsDoneBy f command)
 done_by f command other (Ok s) P is more h = subst (λ (c : Command). IsDoneBy f c s) (sym is) (more s h)
 done_by f command other (Err e) P is more h = tt
-
--- a line that comes to no command is bad, or refused
-pub bad_or_refused : (f : Failure) → (status_of f ≡ BadLine) ⊎ (status_of f ≡ Refused)
-bad_or_refused (failures.Line error) = inl refl
-bad_or_refused failures.NotText = inl refl
-bad_or_refused (failures.Refused error) = inr refl
-bad_or_refused failures.ReaderGone = inr refl
 
 -- an error by which a text is printed is that of words that ask for it
 pub asks : (words : List (List ℕ)) (e : Error) → (kind_of e ≡ OutOfMemory) ⊎ IsAmong (kind_of e) (line_fault words) →

@@ -49,15 +49,6 @@ put_at old hart bytes v l is = record {
   ];
 }
 
--- where there is no such hart, nothing is added
-pub put_nowhere : (old : List (Vec ℕ)) (hart : ℕ) (bytes : List ℕ) → length old ≤ hart → IsPutOut hart bytes old old
-put_nowhere old hart bytes l = record {
-  count = refl;
-  each = λ h d below.
-      sym (append-nil (get_or old h d).items)
-      ∙ ap (λ bs. (get_or old h d).items ++ bs) (sym (cond-false (hart == h) bytes [] (ne_eqb hart h (λ e. absurd (omega (arith, l, below, e))))));
-}
-
 -- where there is an event more, something may have been put out
 pub one_step : (image : Memory) (s : ScriptedStep) (p q r : Standing) (old new : List (Vec ℕ)) → Takes image s q r →
     ((length q.events < length r.events) × IsPutOut s.hart (drop (length q.console.output) r.console.output) old new) ⊎ ((length r.events ≤ length q.events) × (new ≡ old)) →

@@ -4,7 +4,7 @@ use Rattle.std.proofs.lemmas.List.Elements.{All-cons}
 use Rattle.pages.specs.declared.access.Fault.{Fault}
 use Rattle.pages.specs.declared.access.Range.{Range}
 use Rattle.pages.specs.declared.access.Store.{Store}
-use Rattle.pages.specs.Memory.{IsBytes, Memory, TouchesNoCode, any_code, stored, store_fault, width_bytes}
+use Rattle.pages.specs.Memory.{Memory, TouchesNoCode, any_code, stored, store_fault, width_bytes}
 use Rattle.pages.proofs.StoreLaws.{fetched_stays, length-after}
 use Rattle.rv64_decode.specs.declared.instruction.Instr.{Instr}
 use Rattle.round_schedule.specs.declared.access.Access.{Access}
@@ -20,7 +20,7 @@ use Rattle.hart_step.specs.Console.{ConsoleState}
 use Rattle.hart_step.specs.SerialStep.{serial_stepped}
 use Rattle.hart_step.proofs.Shown.{shows_stores}
 use Rattle.serial_phase.proofs.ShownCode.{no_code, serial_clean}
-use Rattle.execution.specs.Executions.{IsLike, IsStep, MayHold}
+use Rattle.execution.specs.Executions.{IsLike, MayHold}
 
 pub like_stored : (image m : Memory) (ss : List Store) → TouchesNoCode m.code ss → IsLike image m → IsLike image (stored m ss)
 like_stored image m ss clean like = record {
@@ -44,28 +44,9 @@ shows_laid (Err f) s m n h first words shows = subst (λ k. Shows k first words)
 pub like_served : (image m q : Memory) (n : ℕ) (h : Hart) (c : ConsoleState) (r : Option Span) → q ≡ stored m (serial_stepped n h m c r).stores → IsLike image m → IsLike image q
 like_served image m q n h c r e like = subst (IsLike image) (sym e) (like_stored image m (serial_stepped n h m c r).stores (serial_clean m n h c r) like)
 
-pub like_same : (image m q : Memory) → q ≡ m → IsLike image m → IsLike image q
-like_same image m q e like = subst (IsLike image) (sym e) like
-
 pub may_hold : (b : Bool) (own held : Option Span) → held ≡ (if b then own else None) → MayHold own held
 may_hold true own held e = inr e
 may_hold false own held e = inl e
-
-pub step_made : (image m : Memory) (n : ℕ) (own held : Option Span) (b : Bool) (c before d : ConsoleState) (h g : Hart) (a : Stepped) → h.stop ≡ None → IsLike image m → IsBytes m.bytes →
-    held ≡ (if b then own else None) → before ≡ c → a ≡ (serial_stepped n h m before held).answer → g ≡ (serial_stepped n h m before held).hart → d ≡ (serial_stepped n h m before held).console →
-    IsStep image n own c d h g a
-step_made image m n own held b c before d h g a runs like bytes holds same answer hart console =
-    subst (λ k. IsStep image n own k d h g a) same (record {
-      runs = runs;
-      seen = m;
-      like = like;
-      bytes = bytes;
-      held = held;
-      may_hold = may_hold b own held holds;
-      answers = sym answer;
-      hart = hart;
-      console = console;
-    })
 
 length-updated : (i j : ℕ) (a : Access) (reservations : List (Option Span)) → length (updated i j a reservations) ≡ length reservations
 length-updated i j a [] = refl

@@ -25,10 +25,6 @@ tells_append _ _ v w tells-none q = q
 tells_append _ _ v w (tells-both e t u p) q = tells-both e (t ++ v) (u ++ w) (tells_append t u v w p q)
 tells_append _ _ v w (tells-more e t u a p) q = tells-more e (t ++ v) (u ++ w) a (tells_append t u v w p q)
 
-pub tells_itself : (t : List Event) → Tells t t
-tells_itself [] = tells-none
-tells_itself (e ∷ t) = tells-both e t t (tells_itself t)
-
 -- the accesses that are told of an answer, and those of the answer
 told_accesses : (n i : ℕ) (s : Phase) (a : Option Access) → Tells (events_of n i s (option_to_list (told_access a))) (events_of n i s (option_to_list a))
 told_accesses n i s None = tells-more (event_of n i s no_access) [] [] refl tells-none

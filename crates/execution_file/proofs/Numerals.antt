@@ -1,8 +1,7 @@
 -- Numbers: what is read of one is written so, and what is written so is read.
-use Rattle.std.proofs.Common.{◌≡◌, ℕ, zero, suc, ◌+◌, ◌-◌, ◌*◌, ◌^◌, ◌<◌, ◌≤◌, Bool, true, false, cond, leb, eqb, not, List, [], ◌∷◌, ◌++◌, length, get_or, take, drop, append_assoc, Result, Ok, Err, refl, sym, ap, subst, ◌∙◌, arith, rules}
+use Rattle.std.proofs.Common.{◌≡◌, ℕ, zero, suc, ◌+◌, ◌-◌, ◌*◌, ◌^◌, ◌<◌, ◌≤◌, Bool, true, false, cond, leb, eqb, not, List, [], ◌∷◌, ◌++◌, length, get_or, take, drop, Result, Ok, Err, refl, sym, ap, subst, ◌∙◌, arith, rules}
 use Rattle.std.proofs.lemmas.Bool.Decides.{nat_tests}
 use Rattle.std.proofs.lemmas.Fmt.{decimal_digit, decimal_nonempty, digits_decimal, digits_value-decimal, first_decimal, decimal-digits_value}
-use Rattle.std.proofs.lemmas.List.{append-nil, take_more}
 use Rattle.std.proofs.Math.ListN.{drop_of_length-le}
 use Rattle.std.proofs.Math.Seq.{drop-cons}
 use Rattle.std.proofs.lemmas.Str.Parse.{IsNumeralModel, numerals_by_fold}
@@ -110,36 +109,9 @@ pub record Splits (bs : List ℕ) (k : ℕ) : Type 0 where
   pub digits : digits_at bs ≡ take k bs ++ digits_at (drop k bs)
   pub rest : after_digits bs ≡ after_digits (drop k bs)
 
-pub splits_start : (bs : List ℕ) → Splits bs 0
-splits_start bs = record { within = omega arith; digits = refl; rest = refl }
-
-pub splits_more : (bs : List ℕ) (k : ℕ) → k < length bs → is_digit (get_or bs k 0) ≡ true → Splits bs k → Splits bs (k + 1)
-splits_more bs k low d s =
-    let n = next_of bs k low in
-    let front : digits_at (drop k bs) ≡ get_or bs k 0 ∷ digits_at (drop (k + 1) bs) = rw (n, d) refl in
-    let behind : after_digits (drop k bs) ≡ after_digits (drop (k + 1) bs) = rw (n, d) refl in
-    let longer : take (k + 1) bs ≡ take k bs ++ get_or bs k 0 ∷ [] = take_more bs k 0 low in
-    record {
-      within = omega (arith, low);
-      digits = s.digits ∙ ap (λ (t : List ℕ). take k bs ++ t) front ∙ sym (append_assoc (take k bs) (get_or bs k 0 ∷ []) (digits_at (drop (k + 1) bs))) ∙ ap (λ (t : List ℕ). t ++ digits_at (drop (k + 1) bs)) (sym longer);
-      rest = s.rest ∙ behind;
-    }
-
 -- no digit stands there
 pub record Stops (bs : List ℕ) (k : ℕ) : Type 0 where
   pub digits : digits_at (drop k bs) ≡ []
-
-pub stops_at_end : (bs : List ℕ) (k : ℕ) → length bs ≤ k → Stops bs k
-stops_at_end bs k all = record { digits = ap digits_at (drop_of_length-le bs all) }
-
-pub stops_there : (bs : List ℕ) (k : ℕ) → k < length bs → is_digit (get_or bs k 0) ≡ false → Stops bs k
-stops_there bs k low d = record { digits = rw (next_of bs k low, d) refl }
-
-pub split_digits_are : (bs : List ℕ) (k : ℕ) → Splits bs k → Stops bs k → digits_at bs ≡ take k bs
-split_digits_are bs k s e = s.digits ∙ ap (λ (t : List ℕ). take k bs ++ t) e.digits ∙ append-nil (take k bs)
-
-pub split_rest_is : (bs : List ℕ) (k : ℕ) → Splits bs k → Stops bs k → after_digits bs ≡ drop k bs
-split_rest_is bs k s e = s.rest ∙ after_none (drop k bs) e.digits
 
 pub value_more : (v w d i : ℕ) (ds : List ℕ) (total : ℕ) → i < length ds → d ≡ get_or ds i 0 → w ≡ 10 * v + (d - 48) → value_from v (drop i ds) ≡ total → value_from w (drop (i + 1) ds) ≡ total
 value_more v w d i ds total low is e so_far =

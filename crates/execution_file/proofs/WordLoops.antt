@@ -11,32 +11,15 @@ use Rattle.execution_file.specs.declared.cause.ReadError.TheVariants as errors
 use Rattle.execution_file.specs.Formats.{Format, ◌>>=◌, refused, taken_word, taken_list}
 use Rattle.execution_file.specs.Views.{Fails}
 use Rattle.execution_file.proofs.Loops.{with_front, regroup}
-use Rattle.execution_file.proofs.Written.{drop_all}
 
 -- ---- words
 
 next_of : (ws : List ℕ) (i : ℕ) → i < length ws → drop i ws ≡ get_or ws i 0 ∷ drop (i + 1) ws
 next_of ws i low = let e : suc i ≡ i + 1 = omega arith in drop-cons ws i 0 low ∙ ap (λ (n : ℕ). get_or ws i 0 ∷ drop n ws) e
 
-pub word_goes : (short wrong : Cause) (ws : List ℕ) (i b : ℕ) (bs after : List ℕ) (total : Result (List ℕ) Refusal) → i < length ws → bs ≡ b ∷ after → b ≡ get_or ws i 0 → taken_word short wrong (drop i ws) bs ≡ total
-    → taken_word short wrong (drop (i + 1) ws) after ≡ total
-word_goes short wrong ws i b bs after total low parts is so_far =
-    let one : taken_word short wrong (drop i ws) bs ≡ taken_word short wrong (drop (i + 1) ws) after = rw (next_of ws i low, parts, eq-eqb b (get_or ws i 0) is) refl in
-    sym one ∙ so_far
-
 pub word_cut : (short wrong : Cause) (ws : List ℕ) (i : ℕ) (bs : List ℕ) (total : Result (List ℕ) Refusal) → i < length ws → length bs ≡ 0 → taken_word short wrong (drop i ws) bs ≡ total → total ≡ refused short bs
 word_cut short wrong ws i bs total low none so_far =
     let one : taken_word short wrong (drop i ws) bs ≡ refused short bs = rw (next_of ws i low, nil_from_length bs none) refl in
-    sym so_far ∙ one
-
-pub word_differs : (short wrong : Cause) (ws : List ℕ) (i b : ℕ) (bs after : List ℕ) (total : Result (List ℕ) Refusal) → i < length ws → bs ≡ b ∷ after → (b ≡ get_or ws i 0 → ⊥) → taken_word short wrong (drop i ws) bs ≡ total → total ≡ refused wrong bs
-word_differs short wrong ws i b bs after total low parts not so_far =
-    let one : taken_word short wrong (drop i ws) bs ≡ refused wrong bs = rw (next_of ws i low, parts, ne_eqb b (get_or ws i 0) not) refl in
-    sym so_far ∙ one
-
-pub word_done : (short wrong : Cause) (ws : List ℕ) (i : ℕ) (bs : List ℕ) (total : Result (List ℕ) Refusal) → length ws ≤ i → taken_word short wrong (drop i ws) bs ≡ total → total ≡ Ok bs
-word_done short wrong ws i bs total all so_far =
-    let one : taken_word short wrong (drop i ws) bs ≡ Ok bs = rw (drop_all ws i all) refl in
     sym so_far ∙ one
 
 -- ---- lists

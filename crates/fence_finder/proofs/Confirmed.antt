@@ -1,7 +1,6 @@
 -- One more missing fence that is told.
 use Rattle.std.proofs.Common.{◌≡◌, ℕ, ◌+◌, List, [], ◌∷◌, ◌++◌, ap, refl, subst, sym, ◌∙◌}
 use Rattle.std.proofs.lemmas.List.Elements.{All-push}
-use Rattle.std.proofs.lemmas.List.Sums.{sum_by_push}
 use Rattle.elf_loader.specs.Image.{Loaded}
 use Rattle.fence_kinds.specs.Kinds.{IsWeakest}
 use Rattle.fence_kinds.specs.declared.mending.Place.{Place}
@@ -13,7 +12,7 @@ use Rattle.fence_trials.specs.declared.departing.Departing.{Departing}
 use Rattle.fence_trials.specs.declared.guest.FenceGuest.{FenceGuest}
 use Rattle.fence_trials.specs.declared.ordinary.Ordinary.{Ordinary}
 use Rattle.hart_step.specs.declared.hart.Hart.{Hart}
-use Rattle.fence_finder.specs.MissingFences.{AreMissing, AreShown, IsFault, IsShown, IsTriedFence, missing_plans}
+use Rattle.fence_finder.specs.MissingFences.{AreMissing, AreShown, IsFault, IsShown, IsTriedFence}
 use Rattle.plan_hunt.specs.Endings.{Ended}
 
 pub one_more : (image : Loaded) (input : List ℕ) (harts : List Hart) (shown all : List Missing) (m : Missing) → all ≡ shown ++ m ∷ [] →
@@ -26,9 +25,6 @@ pub one_told : (comes_to : FenceGuest → Departing → ℕ → Ended → Type 0
 one_told comes_to g o first count told all m e h fails tried =
     subst (AreMissing comes_to g o first count) (sym e)
     (All-push (λ (x : Missing). IsFault o x.failure × IsTriedFence comes_to g o first count x.fence) told m h (fails, tried))
-
-pub plans_more : (told all : List Missing) (m : Missing) → all ≡ told ++ m ∷ [] → missing_plans all ≡ missing_plans told + m.numbers.plans
-plans_more told all m e = ap missing_plans e ∙ sum_by_push (λ (x : Missing). x.numbers.plans) told m
 
 pub tried_so : (comes_to : FenceGuest → Departing → ℕ → Ended → Type 0) (p : Place) (k : FenceKind) (pc : ℕ) (f : TriedFence) → IsWeakest comes_to p k → pc ≡ pc_of p.weakness.now →
     f ≡ record { kind = k; pc = pc; executions = p.count } → IsTriedFence comes_to p.guest.now p.runs.now p.first p.count f

@@ -1,5 +1,5 @@
 -- What trials with a fence of a kind come to.
-use Rattle.std.proofs.Common.{◌≡◌, ℕ, zero, suc, ◌+◌, ◌↔◌, IsTrue, inl, inr, Bool, true, false, not, List, [], ◌∷◌, ◌++◌, refl, ◌∙◌, ap, subst, arith}
+use Rattle.std.proofs.Common.{◌≡◌, ℕ, zero, suc, ◌+◌, ◌↔◌, IsTrue, inl, Bool, true, false, not, List, [], ◌∷◌, ◌++◌, refl, ◌∙◌, ap, subst}
 use Rattle.std.specs.Bool.{OnFalse, OnTrue}
 use Rattle.plan_hunt.specs.Endings.{Ended}
 use Rattle.plan_hunt.specs.declared.extent.Extent.{Extent}
@@ -17,7 +17,6 @@ use Rattle.fence_trials.specs.declared.departing.Departing.{Departing}
 use Rattle.fence_trials.specs.declared.guest.FenceGuest.{FenceGuest}
 use Rattle.fence_trials.specs.declared.spot.Spot.{Spot}
 use Rattle.fence_trials.specs.declared.trying.Trial.{Trial}
-use Rattle.fence_trials.specs.declared.trying.Trial.TheVariants.{Well}
 use Rattle.timed_machine.specs.declared.assumed.AssumedFence.{AssumedFence}
 
 -- ---- the numbers
@@ -47,19 +46,6 @@ extent_of p = record { first = p.first; most = p.count; until = Bad; is_timed = 
 abbrev pub AreTried : (Departing → ℕ → Ended → Type 0) → Place → Trials → Type 0
 AreTried comes_to p t = AreSearchedBy comes_to (Tells p.weakness.now.spot) p.runs.now (extent_of p) t
 
-pub fails_among : (comes_to : Departing → ℕ → Ended → Type 0) (p : Place) (t : Trials) → AreTried comes_to p t → t.is_over ≡ true → FailsAmong comes_to p
-fails_among comes_to p t h e = elim (subst (λ b. Stands b (tried_by comes_to p.runs.now) (Tells p.weakness.now.spot) (extent_of p) t.done t.counted) e h.so_far.stands) [
-  | inl f ↦ record {
-    number = p.first + f.before;
-    from = omega arith;
-    below = omega (arith, f.count, h.so_far.few);
-    trial = f.last;
-    tried = f.made;
-    fails = f.found.0 refl;
-  }
-  | inr i ↦ absurd (not_true i.timed)
-]
-
 none_among : (comes_to : Departing → ℕ → Ended → Type 0) (p : Place) (t : Trials) → AreTried comes_to p t → t.is_over ≡ false → NoneFails comes_to p
 none_among comes_to p t h e =
     let gone = subst (λ b. Stands b (tried_by comes_to p.runs.now) (Tells p.weakness.now.spot) (extent_of p) t.done t.counted) e h.so_far.stands in
@@ -74,9 +60,6 @@ none_unless comes_to p t h = by_case t.is_over (none_among comes_to p t h)
     by_case false k = k refl
 
 -- ---- an execution that was found
-
-pub not_well : (spot : Spot) (t : Trial) → FailsAt spot t → t ≡ Well → ⊥
-not_well spot t f e = subst (FailsAt spot) e f
 
 -- ---- with a fence of a kind
 

@@ -19,35 +19,6 @@ use Rattle.fence_trials.specs.declared.ordinary.Ordinary.{Ordinary}
 use Rattle.fence_trials.specs.declared.trying.Trial.{Trial}
 use Rattle.fence_trials.specs.declared.trying.Trial.TheVariants as trials
 
-pub judged_so : (o : Ordinary) (e : Ended) (j : Judgement) → (j ≡ judgements.Well → IsWellBeside o e) → (IsWellBeside o e → j ≡ judgements.Well) → (j ≡ judgements.Cut → IsCutOff e) →
-    (j ≡ judgements.Fails failings.Stuck → IsCutOff e) → IsJudged (λ d. d ≡ e) o j
-judged_so o e judgements.Well well bad cut stuck = (e, refl, well refl)
-judged_so o e (judgements.Fails failings.Stuck) well bad cut stuck = (e, refl, stuck refl)
-judged_so o e (judgements.Fails (failings.Stopped hart stop)) well bad cut stuck = (e, refl, λ w. no (bad w))
-  where
-    no : judgements.Fails (failings.Stopped hart stop) ≡ judgements.Well → ⊥
-    no q = cc
-judged_so o e (judgements.Fails failings.Output) well bad cut stuck = (e, refl, λ w. no (bad w))
-  where
-    no : judgements.Fails failings.Output ≡ judgements.Well → ⊥
-    no q = cc
-judged_so o e (judgements.Fails failings.Seen) well bad cut stuck = (e, refl, λ w. no (bad w))
-  where
-    no : judgements.Fails failings.Seen ≡ judgements.Well → ⊥
-    no q = cc
-judged_so o e judgements.Cut well bad cut stuck = (e, refl, cut refl)
-judged_so o e judgements.Void well bad cut stuck = tt
-
--- who makes the execution says what it comes to
-pub judged_by : (P Q : Ended → Type 0) (o : Ordinary) (j : Judgement) → ((e : Ended) → P e → Q e) → IsJudged P o j → IsJudged Q o j
-judged_by P Q o judgements.Well h (e, p, w) = (e, h e p, w)
-judged_by P Q o (judgements.Fails failings.Stuck) h (e, p, w) = (e, h e p, w)
-judged_by P Q o (judgements.Fails (failings.Stopped hart stop)) h (e, p, w) = (e, h e p, w)
-judged_by P Q o (judgements.Fails failings.Output) h (e, p, w) = (e, h e p, w)
-judged_by P Q o (judgements.Fails failings.Seen) h (e, p, w) = (e, h e p, w)
-judged_by P Q o judgements.Cut h (e, p, w) = (e, h e p, w)
-judged_by P Q o judgements.Void h p = tt
-
 -- ---- harts that haven't stopped
 
 not_true : false ≡ true → ⊥
@@ -95,9 +66,6 @@ looked_so comes_to o n trials.Unconfirmed bad holds h = tt
 -- without departures it was well, or cut off
 pub well_anyway : (comes_to : Departing → Ended → Type 0) (o : Ordinary) (d : Departing) (j : Judgement) → AreNone d → IsJudged (comes_to d) o j → j ≡ judgements.Well → HoldsAnyway comes_to o
 well_anyway comes_to o d j none h e = (d, none, inl (subst (λ (k : Judgement). IsJudged (comes_to d) o k) e h))
-
-pub cut_anyway : (comes_to : Departing → Ended → Type 0) (o : Ordinary) (d : Departing) (j : Judgement) → AreNone d → IsJudged (comes_to d) o j → j ≡ judgements.Cut → HoldsAnyway comes_to o
-cut_anyway comes_to o d j none h e = (d, none, inr (subst (λ (k : Judgement). IsJudged (comes_to d) o k) e h))
 
 pub looked_after : {X : Type 0} (comes_to : Departing → Ended → Type 0) (o : Ordinary) (n : ℕ) (f : Failing) (r : Result Trial X) → IsJudged (comes_to Drawn) o (judgements.Fails f) → HoldsAnyway comes_to o →
     IfOk r (IsLookedInto n) → IfOk r (IsTrialOf comes_to o n)

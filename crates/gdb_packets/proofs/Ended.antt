@@ -1,9 +1,9 @@
 -- A payload as it was read, with its limit.
-use Rattle.std.proofs.Common.{◌≡◌, ℕ, ◌≤◌, ◌<◌, false, List, [], ◌∷◌, ◌++◌, length, Option, Some, None, inl, inr, refl, sym, ◌∙◌, ap, append-nil, arith, length-append}
+use Rattle.std.proofs.Common.{◌≡◌, ℕ, ◌≤◌, ◌<◌, false, List, [], ◌∷◌, ◌++◌, length, Some, None, inl, inr, refl, sym, ◌∙◌, ap, append-nil, arith}
 use Rattle.std.proofs.lemmas.Bool.{le-leb}
 use Rattle.std.proofs.lemmas.Bool.Decides.{leb_tells}
 use Rattle.std.specs.Prelude.{nat_le}
-use Rattle.gdb_packets.specs.Payload.{behind, if_short, last_of, most, payload_of, read_behind, read_on}
+use Rattle.gdb_packets.specs.Payload.{if_short, most, payload_of, read_behind, read_on}
 
 pub is_not_le : (a b : ℕ) → b < a → nat_le a b ≡ false
 is_not_le a b lt = elim (leb_tells a b) [ inl w ↦ absurd (omega (arith, w.1, lt)) | inr w ↦ w.0 ]
@@ -16,17 +16,3 @@ pub short_read : (payload rest bs : List ℕ) → length rest ≡ 0 → read_on 
 unfolding read_behind
 short_read payload [] bs z e le = sym (ap if_short (sym e) ∙ ap (λ (xs : List ℕ). if_short (Some xs)) (append-nil payload) ∙ is_short payload le)
 short_read payload (x ∷ xs) bs z e le = absurd (omega arith)
-
-too_long : (payload : List ℕ) (more : Option (List ℕ)) → most < length payload → if_short (behind payload more) ≡ None
-too_long payload None lt = refl
-too_long payload (Some xs) lt =
-    let longer : most < length (payload ++ xs) = omega (arith, length-append payload xs, lt) in
-    rw (is_not_le (length (payload ++ xs)) most longer) refl
-
--- it is too long, whatever is left
-pub long_read : (payload rest bs : List ℕ) → read_on payload rest ≡ read_behind None bs → most < length payload → None ≡ payload_of bs
-long_read payload rest bs e lt = sym (ap if_short (sym e) ∙ too_long payload (read_behind (last_of payload) rest) lt)
-
--- the rest stands for nothing
-pub nothing_read : (payload rest bs : List ℕ) → read_on payload rest ≡ read_behind None bs → read_on payload rest ≡ None → None ≡ payload_of bs
-nothing_read payload rest bs e n = ap if_short (sym n ∙ e)

@@ -38,9 +38,6 @@ CameSoFar bs = (more : List ℕ) → framed (bs ++ more) ≡ framed_behind bs mo
 pub came_one : (bs : List ℕ) (b : ℕ) → (b == 35) ≡ false → CameSoFar bs → CameSoFar (bs ++ b ∷ [])
 came_one bs b e came = λ more. ap framed (append_assoc bs (b ∷ []) more) ∙ came (b ∷ more) ∙ framed_more bs b more e
 
-pub came_all : (bs : List ℕ) → CameSoFar bs → framed bs ≡ None
-came_all bs came = ap framed (sym (append-nil bs)) ∙ came []
-
 pub came_closed : (bs : List ℕ) → CameSoFar bs → (more : List ℕ) → framed ((bs ++ 35 ∷ []) ++ more) ≡ closed_by bs more
 came_closed bs came more = ap framed (append_assoc bs (35 ∷ []) more) ∙ came (35 ∷ more) ∙ framed_end bs more
 

@@ -112,9 +112,6 @@ module _ (a b c d e h : List ℕ) (draft : Draft) (so_far : Began a b c d draft)
 
 -- ---- what is told
 
-pub passes_none : (a b : List ℕ) → Passed a b a b
-passes_none a b = record { text = []; on = goes_nowhere a b; passed = λ more. refl }
-
 module _ (a b c d e h : List ℕ) (so_far : Passed a b c d) where
   pub next_ends : (o : Option ℕ) → o ≡ None → GoesOn c d e h (option_to_list o) → IfNone o (h ≡ []) → EndsBy next_of a b e h
   unfolding next_of

@@ -1,5 +1,4 @@
 pub mod Units
-pub mod Sums
 pub mod Ended
 pub mod Told
 pub mod Framing

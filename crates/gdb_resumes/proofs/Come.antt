@@ -23,10 +23,6 @@ use Rattle.gdb_resumes.specs.Resumes.{Continues, SearchesTo, comes_first, goal_o
 use Rattle.gdb_runs.specs.Standings.{at_goal, end_of, told_at, told_or}
 use Rattle.gdb_runs.proofs.Within.{IsIn, next_is_in, previous_is_in, rounds_after}
 
-pub begins_within : (rounds : ℕ) (way : Way) (n : ℕ) → n ≤ rounds → begins_at rounds way n ≤ rounds
-begins_within rounds On n le = le
-begins_within rounds Back n le = omega arith
-
 pub begins : (r : Recorded) (way : Way) (t : Telling) (here : Point) (n : ℕ) → n ≡ begins_at r.rounds way here.moment.rounds → nearest_of r way t here ≡ left_of r way n t here
 begins r On t here n e = ap (λ (k : ℕ). left_of r On k t here) (sym e)
 begins r Back t here n e = ap (λ (k : ℕ). left_of r Back k t here) (sym e)

@@ -134,24 +134,11 @@ first_ends logs m (suc i) (r ∷ rs) (o ∷ os) a = (a.0, first_ends logs m i rs
 pub found_none : (budget count : ℕ) (h e : Hart) (d : Sight Hart) → minus d.hart.done h.done < count → found budget count h d e ≡ None
 found_none budget count h e d lt = let t : nat_lt (minus d.hart.done h.done) count ≡ true = grind (arith, nat_tests) in rw t refl
 
-pub found_all : (budget count : ℕ) (h e : Hart) (d : Sight Hart) → count ≤ minus d.hart.done h.done → count ≡ budget → found budget count h d e ≡ Some d
-found_all budget count h e d le all =
-    let t : nat_lt (minus d.hart.done h.done) count ≡ false = grind (arith, nat_tests) in
-    let u : nat_eq count budget ≡ true = grind (arith, nat_tests) in
-    rw (t, u) refl
-
 pub found_end : (budget count : ℕ) (h e : Hart) (d : Sight Hart) → count ≤ minus d.hart.done h.done → (count ≡ budget → ⊥) → e.done ≡ d.hart.done → found budget count h d e ≡ Some (record d { hart = e })
 found_end budget count h e d le less same =
     let t : nat_lt (minus d.hart.done h.done) count ≡ false = grind (arith, nat_tests) in
     let u : nat_eq count budget ≡ false = grind (arith, nat_tests) in
     let v : nat_eq e.done d.hart.done ≡ true = grind (arith, nat_tests) in
-    rw (t, u, v) refl
-
-pub found_further : (budget count : ℕ) (h e : Hart) (d : Sight Hart) → count ≤ minus d.hart.done h.done → (count ≡ budget → ⊥) → (e.done ≡ d.hart.done → ⊥) → found budget count h d e ≡ Some d
-found_further budget count h e d le less differ =
-    let t : nat_lt (minus d.hart.done h.done) count ≡ false = grind (arith, nat_tests) in
-    let u : nat_eq count budget ≡ false = grind (arith, nat_tests) in
-    let v : nat_eq e.done d.hart.done ≡ false = grind (arith, nat_tests) in
     rw (t, u, v) refl
 
 -- ---- after a commit and the turns before it

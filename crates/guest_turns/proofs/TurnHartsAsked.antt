@@ -124,16 +124,6 @@ hart_in_turn code budget quotas s i count h g xs e low few at_i at_first le =
     ∙ ap (λ (hs : List Hart). slice_get hs (count - minus part.last.hart.done h.done)) same
     ∙ ap (λ (k : ℕ). slice_get xs (count - k)) (sym by_count)
 
--- there always is a first one
-pub turn_has_first : {H C : Type 0} (w : Words H C) (budget : ℕ) (quotas : ℕ → List ℕ) (s : State H C) (i : ℕ) (h : H) (xs : List H) → slice_get s.harts i ≡ Some h →
-    slice_get (turns_in_round w budget quotas s) i ≡ Some xs → 1 ≤ length xs
-turn_has_first {H} {C} w budget quotas s i h xs e at_i =
-    let part = hart_round_of w s.bytes (slice_index (quotas s.rounds) i) h in
-    let before = before_turn w budget s (hart_rounds w s.bytes (quotas s.rounds) s.harts) i in
-    let same : turn_of_waiting w budget before i part ≡ xs = some_is (turn_of_waiting w budget before i part) xs (sym (turn_is w budget quotas s i h e) ∙ at_i) in
-    let size = (turns_are w before.rounds i (cond part.waits budget 0) (record { hart = part.last.hart; bytes = before.bytes; console = before.console; trace = before.trace })).size in
-    omega (arith, size, ap length same)
-
 -- and at most as many as a turn may do instructions follow it
 phase_few : {H C : Type 0} (w : Words H C) (budget j i : ℕ) (rs : List (HartRound H)) (s : State H C) (xs : List H) → slice_get (turns_in_phase w budget j rs s) i ≡ Some xs → length xs ≤ suc budget
 phase_few w budget j i [] s xs e = absurd cc

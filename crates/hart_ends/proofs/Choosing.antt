@@ -29,7 +29,3 @@ split_ends (v ∷ ws) w (e ∷ es) all =
     let parts = one_less v (ws ++ w ∷ []) e es all in
     let r = split_ends ws w es parts.1 in
     (e ∷ r.0, r.1, one_more v ws e r.0 parts.0 r.2, r.3, ap (λ (fs : List HartEnding). e ∷ fs) r.4)
-
-pub none_chosen : (es : List HartEnding) → AreEndsOf [] es → es ≡ []
-none_chosen [] all = refl
-none_chosen (e ∷ es) all = absurd (let l : suc (length es) ≡ 0 = all.as_many in omega (arith, l))

@@ -93,16 +93,6 @@ storing_writes o e = by_kind o.kind e
     by_kind StoreConditional e = refl
     by_kind Atomic e = absurd (cc)
 
-pub storing_only : (o : Operation) → is_storing o.kind ≡ true → loads (access_of o) ≡ false
-storing_only o e = by_kind o.kind e
-  where
-    by_kind : (k : Kind) → is_storing k ≡ true → loads (access_as k o.address o.width o.ordering) ≡ false
-    by_kind Load e = absurd (cc)
-    by_kind Store e = refl
-    by_kind LoadReserved e = absurd (cc)
-    by_kind StoreConditional e = refl
-    by_kind Atomic e = absurd (cc)
-
 -- each of its bytes is one of the operation
 pub covers_at : (o : Operation) (k : ℕ) → k < width_bytes o.width → covers (access_of o) (o.address + k) ≡ true
 covers_at o k l =

@@ -1,6 +1,5 @@
 pub mod Again
 pub mod Allowed
-pub mod Atomicity
 pub mod Computes
 pub mod Early
 pub mod Found

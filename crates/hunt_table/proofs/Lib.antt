@@ -5,5 +5,4 @@ pub mod Numbers
 pub mod Quotes
 pub mod Repeats
 pub mod Whole
-pub mod Same
 pub mod Slices

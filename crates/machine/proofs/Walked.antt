@@ -1,13 +1,12 @@
 -- A walk over a run, round by round and part by part.
-use Rattle.std.proofs.Common.{◌≡◌, ℕ, ◌+◌, ◌-◌, ◌<◌, ◌≤◌, ◌∙◌, Bool, List, ◌++◌, sym, ap, subst, arith, inl, inr, true, false}
+use Rattle.std.proofs.Common.{◌≡◌, ℕ, ◌+◌, ◌-◌, ◌<◌, ◌≤◌, ◌∙◌, Bool, List, ◌++◌, sym, ap, subst, arith, inl, inr}
 use Rattle.std.specs.Prelude.{◌⊎◌, Result, Ok, Err, IfOk, OnOk, OnErr}
 use Rattle.round_schedule.specs.declared.event.Event.{Event}
 use Rattle.hart_rounds.specs.Starts.{Start}
 use Rattle.machine.specs.RoundStarts.{next_start_of, start_at, untraced_rounds}
 use Rattle.machine.specs.Machine.{Running, after_rounds}
 use Rattle.machine.specs.Untraced.{HasRun, IsUntraced, MayGoOn, Untraced, next_events, untraced_round}
-use Rattle.machine.specs.Walks.{HasDone, HasEnded, HasLearned, HasSeenAll, HasStopped, IsCutOff, IsUpToDate, MayWalk}
-use Rattle.machine.specs.declared.walks.Walked.{Walked}
+use Rattle.machine.specs.Walks.{HasDone, HasLearned, HasSeenAll, HasStopped, IsCutOff, IsUpToDate, MayWalk}
 use Rattle.machine.proofs.NumberedStarts.{one_more, starts_there}
 use Rattle.machine.proofs.Repeated.{more_rounds, no_rounds}
 use Rattle.machine.proofs.UntracedRounds.{may_next, passed_by, rounds_pass}
@@ -123,19 +122,6 @@ module _ {V : Type 0} (knows : V → V → Untraced → ℕ → ℕ → Type 0) 
   seen_by n u first a b h same = subst (λ (v : V). HasSeenAll knows first v u n) same h
 
 -- ---- how a walk ended
-
-pub ended_alone : (w : Walked) (n most : ℕ) (enough : Type 0) → w.wants_workers ≡ false → HasEnded w n most enough → (w.rounds ≡ n) ⊎ enough
-ended_alone w n most enough alone (inl e) = inl e
-ended_alone w n most enough alone (inr (inl x)) = inr x
-ended_alone w n most enough alone (inr (inr wants)) = absurd (not_both (sym wants.0 ∙ alone))
-  where
-    not_both : true ≡ false → ⊥
-    not_both e = absurd cc
-
-pub ended_later : (w : Walked) (k n : ℕ) (enough : Type 0) → k ≤ n → HasEnded w (n - k) 1 enough → (k + w.rounds ≡ n) ⊎ enough
-ended_later w k n enough few (inl e) = inl (omega (arith, e, few))
-ended_later w k n enough few (inr (inl x)) = inr x
-ended_later w k n enough few (inr (inr wants)) = absurd (omega (arith, wants.1))
 
 pub cut_off_later : (may_fail : Type 0) (k n j : ℕ) → k ≤ n → IsCutOff may_fail (n - k) j → IsCutOff may_fail n (k + j)
 cut_off_later may_fail k n j few (inl lt) = inl (omega (arith, lt, few))

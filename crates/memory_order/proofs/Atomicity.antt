@@ -1,7 +1,6 @@
 -- The atomicity axiom by the latest stores to each byte.
 use Rattle.std.proofs.Common.{◌≡◌, ◌≢◌, ℕ, ◌+◌, ◌<◌, ◌≤◌, ◌==◌, ◌&&◌, ◌||◌, max, Bool, true, false, if◌then◌else◌, List, length, get_or, Option, Some, None, refl, sym, ap, ◌∙◌, subst, inl, inr, arith}
 use Rattle.std.proofs.lemmas.Bool.{and_parts, cases_Bool, cases_eq, cases_lt, cond-false, cond-true, eq-eqb, ne_eqb}
-use Rattle.std.proofs.lemmas.Bool.Decides.{nat_tests}
 use Rattle.pages.specs.Memory.{in_range}
 use Rattle.round_schedule.specs.declared.access.Access.{Access}
 use Rattle.round_schedule.specs.declared.access.Access.TheVariants.{Load, Store, LoadReserved, StoreConditional, Atomic, Fence}
@@ -99,23 +98,6 @@ latest_step t g i p hart e old new lists is of op at set was x = elim (cases_Boo
       subst (IsLatestStore t (order_position g) (p + 1) x) (sym n) (latest_stays t g i p x (old x) lists op at (ap (λ (f : Event). writes f.access x) (sym is) ∙ w) (was x))
 ]
 
--- one more byte
-pub note_more : (address k x hart next : ℕ) (b0 b1 here b2 : Latest) → b1 ≡ (if in_range address k x then after_store b0 hart next else b0) →
-    (x ≡ address + k → here ≡ b1) → b2 ≡ (if x == address + k then after_store here hart next else b1) →
-    b2 ≡ (if in_range address (k + 1) x then after_store b0 hart next else b0)
-note_more address k x hart next b0 b1 here b2 e at f = elim (cases_eq x (address + k)) [
-  | inl same ↦
-      let out : in_range address k x ≡ false = grind (arith, nat_tests) in
-      let now : in_range address (k + 1) x ≡ true = grind (arith, nat_tests) in
-      f ∙ cond-true (x == address + k) (after_store here hart next) b1 (eq-eqb x (address + k) same)
-      ∙ ap (λ l. after_store l hart next) (at same ∙ e ∙ cond-false (in_range address k x) (after_store b0 hart next) b0 out)
-      ∙ sym (cond-true (in_range address (k + 1) x) (after_store b0 hart next) b0 now)
-  | inr other ↦
-      let same : in_range address k x ≡ in_range address (k + 1) x = grind (arith, nat_tests) in
-      f ∙ cond-false (x == address + k) (after_store here hart next) b1 (ne_eqb x (address + k) other)
-      ∙ e ∙ ap (λ b. if b then after_store b0 hart next else b0) same
-]
-
 -- ---- what the test of a byte says
 
 undisturbed_from : (t : List Event) (pos : ℕ → ℕ) (l c x v o : ℕ) (s : Option ℕ) → IsMax pos (MaySee t pos l x) v → IsMax pos (OthersBelow t pos (pos c) x (event t c).hart) o →
@@ -199,15 +181,9 @@ test_from_atomic t g c p l hart e others sources lists op at paired is of om sm 
     both : (a b : Bool) → a ≡ true → b ≡ true → (a && b) ≡ true
     both a b h k = grind arith
 
-pub atomic_alone : (t : List Event) (pos : ℕ → ℕ) (c : ℕ) → ((l : ℕ) → IsPaired t l c → ⊥) → AtomicAt t pos c
-atomic_alone t pos c none l x s pair st read source = absurd (none l pair)
-
 -- ---- all positions
 
 pub atomicity_from_each : (t : List Event) (g : List ℕ) → ListsOperations t g → ((p : ℕ) → p < length g → AtomicAt t (order_position g) (get_or g p 0)) → AtomicityAxiom t (order_position g)
 atomicity_from_each t g lists each l c x s pair st read source =
     let f = position_of_contained g c (lists.each c (store_is_operation (event t c) st)) in
     subst (AtomicAt t (order_position g)) f.1 (each (order_position g c) f.0) l x s pair st read source
-
-pub each_from_atomicity : (t : List Event) (pos : ℕ → ℕ) → AtomicityAxiom t pos → (c : ℕ) → AtomicAt t pos c
-each_from_atomicity t pos all c l x s pair st read source = all l c x s pair st read source

@@ -18,26 +18,10 @@ by_test true old raised v look false e o r = cc
 by_test false old raised v look true e o r = cc
 by_test false old raised v look false e o r = sym o
 
--- one number raised, from what the map says of its insertion
-pub raise_one : (a y v : ℕ) (raised : ℕ) (old new : ℕ → ℕ → Option ℕ) → raised ≡ max (unwrap_or (old a y) 0) v →
-    ((h x : ℕ) → new h x ≡ (if is_at (pair_cmp (a, y)) (h, x) then Some raised else old h x)) →
-    (h x : ℕ) → unwrap_or (new h x) 0 ≡ (if h == a && x == y then max (unwrap_or (old h x) 0) v else unwrap_or (old h x) 0)
-raise_one a y v raised old new e is h x =
-    ap (λ o. unwrap_or o 0) (is h x) ∙ by_test (h == a && x == y) (unwrap_or (old h x) 0) raised v (old h x) (is_at (pair_cmp (a, y)) (h, x)) (pair_at a y h x) refl
-    (λ t. let p : h ≡ a = grind (arith, nat_tests) in let q : x ≡ y = grind (arith, nat_tests) in e ∙ ap (λ n. max (unwrap_or (old n y) 0) v) (sym p) ∙ ap (λ n. max (unwrap_or (old h n) 0) v) (sym q))
-
 -- what a second insertion at an index puts there
 pub put_back : (b : Bool) (o v w n m : Option ℕ) → m ≡ (if b then o else n) → n ≡ (if b then v else w) → m ≡ (if b then o else w)
 put_back true o v w n m p q = p
 put_back false o v w n m p q = p ∙ q
-
--- one more byte of a range
-pub raise_more : (h a address k x b0 b1 b2 v : ℕ) (f : ℕ → ℕ) → v ≡ f (address + k) → b1 ≡ (if h == a && in_range address k x then max b0 (f x) else b0) →
-    b2 ≡ (if h == a && x == address + k then max b1 v else b1) → b2 ≡ (if h == a && in_range address (k + 1) x then max b0 (f x) else b0)
-raise_more h a address k x b0 b1 b2 v f w e g = elim (cases_eq x (address + k)) [
-  | inl same ↦ let s : v ≡ f x = w ∙ ap f (sym same) in grind (arith, nat_tests)
-  | inr other ↦ grind (arith, nat_tests)
-]
 
 pub range_last : (address k x : ℕ) → in_range address (k + 1) x ≡ true → (in_range address k x ≡ true) ⊎ (address + k ≡ x)
 range_last address k x h = elim (cases_eq (address + k) x) [

@@ -1,8 +1,8 @@
 -- The inverse of an order: which list of positions the test for orders keeps.
-use Rattle.std.proofs.Common.{◌≡◌, ◌≢◌, ℕ, suc, ◌+◌, ◌<◌, ◌≤◌, ◌==◌, ◌⊎◌, Bool, true, false, if◌then◌else◌, List, [], ◌∷◌, length, get_or, set, replicate, refl, sym, ap, ◌∙◌, subst, inl, inr, arith, Contains, length-set, get_or-set_same, get_or-set_other}
+use Rattle.std.proofs.Common.{◌≡◌, ◌≢◌, ℕ, suc, ◌+◌, ◌<◌, ◌≤◌, ◌==◌, ◌⊎◌, Bool, true, false, if◌then◌else◌, List, [], ◌∷◌, length, get_or, set, refl, sym, ap, ◌∙◌, subst, inl, inr, arith, Contains, length-set, get_or-set_same, get_or-set_other}
 use Rattle.std.proofs.lemmas.Bool.{cases_eq, cases_lt, cases_order}
 use Rattle.std.proofs.lemmas.Bool.Decides.{nat_tests}
-use Rattle.std.proofs.lemmas.List.{get_or-replicate, get_or_default, length-replicate}
+use Rattle.std.proofs.lemmas.List.{get_or_default}
 use Rattle.std.specs.List.{AllPairs}
 use Rattle.round_schedule.specs.declared.event.Event.{Event}
 use Rattle.round_schedule.specs.Positions.{event}
@@ -35,13 +35,6 @@ pub record Met (t : List Event) (g : List ℕ) (p : ℕ) (r : List ℕ) : Type 0
   pub len : length r ≡ length t
   pub forth : (k : ℕ) → k < p → (get_or g k 0 < length t) × (is_operation (event t (get_or g k 0)) ≡ true) × (get_or r (get_or g k 0) 0 ≡ k)
   pub back : (i : ℕ) → i < length t → (get_or r i 0 ≡ length g) ⊎ ((get_or r i 0 < p) × (get_or g (get_or r i 0) 0 ≡ i))
-
-pub met_none : (t : List Event) (g r : List ℕ) → r ≡ replicate (length t) (length g) → Met t g 0 r
-met_none t g r e = record {
-  len = ap length e ∙ length-replicate (length t) (length g);
-  forth = λ k l. absurd (omega (arith, l));
-  back = λ i l. inl (ap (λ v. get_or v i 0) e ∙ get_or-replicate (length t) i (length g) 0 l);
-}
 
 pub met_more : (t : List Event) (g : List ℕ) (p : ℕ) (r : List ℕ) → Met t g p r → p < length g → (i : ℕ) → get_or g p 0 ≡ i → i < length t →
     is_operation (event t i) ≡ true → get_or r i 0 ≡ length g → Met t g (p + 1) (set r i p)
@@ -85,14 +78,6 @@ met_twice t g p r m l lt n lists = elim (m.back (get_or g p 0) lt) [
 
 pub met_other : (t : List Event) (g : List ℕ) (p : ℕ) → p < length g → (is_operation (event t (get_or g p 0)) ≡ true → ⊥) → ListsOperations t g → ⊥
 met_other t g p l n lists = n (lists.only p 0 l)
-
-pub met_missing : (t : List Event) (g r : List ℕ) → Met t g (length g) r → (i : ℕ) → i < length t → is_operation (event t i) ≡ true →
-    get_or r i 0 ≡ length g → ListsOperations t g → ⊥
-met_missing t g r m i l op e lists =
-    let f = position_of_contained g i (lists.each i op) in
-    let k = (m.forth (order_position g i) f.0).2 in
-    let s = ap (λ n. get_or r n 0) f.1 in
-    omega (arith, k, s, e, f.0)
 
 pub met_all : (t : List Event) (g r : List ℕ) → Met t g (length g) r →
     ((i : ℕ) → i < length t → is_operation (event t i) ≡ true → get_or r i 0 ≢ length g) → ListsOperations t g × IsRanking t g r

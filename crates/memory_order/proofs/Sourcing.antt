@@ -1,5 +1,5 @@
 -- The bounds of the stores that a byte of a load may be from.
-use Rattle.std.proofs.Common.{◌≡◌, ◌≢◌, ℕ, zero, suc, ◌+◌, ◌%◌, ◌<◌, ◌≤◌, ◌==◌, ◌&&◌, max, true, if◌then◌else◌, List, length, get_or, replicate, slice_index, refl, sym, ap, ◌∙◌, subst, inl, inr, arith}
+use Rattle.std.proofs.Common.{◌≡◌, ◌≢◌, ℕ, ◌+◌, ◌%◌, ◌<◌, ◌≤◌, ◌==◌, ◌&&◌, max, true, if◌then◌else◌, List, length, get_or, slice_index, sym, ap, ◌∙◌, subst, inl, inr, arith}
 use Rattle.std.proofs.lemmas.Bool.{and_from, and_parts, cases_lt, eq-eqb}
 use Rattle.std.proofs.lemmas.Bool.Decides.{nat_tests}
 use Rattle.round_schedule.specs.declared.event.Event.{Event}
@@ -15,8 +15,7 @@ use Rattle.memory_order.proofs.Sources.{load_at, one_position, store_at}
 use Rattle.memory_order.specs.Checking.{Below, Earlier, IsMax, OwnWrite, row_of, source_at, source_of}
 use Rattle.memory_order.specs.CheckingProgram.{RespectsOverlap}
 use Rattle.memory_order.proofs.Ranking.{place_inverse}
-use Rattle.memory_order.proofs.WordReading.{all_alike}
-use Rattle.memory_order.proofs.Bounding.{below_max, below_none, below_step, earlier_none, earlier_step, max_below, max_join}
+use Rattle.memory_order.proofs.Bounding.{below_max, below_step, earlier_step, max_below, max_join}
 
 pub same_number : (a b : ℕ) → (a == b) ≡ true → a ≡ b
 same_number a b h = grind (arith, nat_tests)
@@ -25,9 +24,6 @@ same_number a b h = grind (arith, nat_tests)
 
 abbrev pub OwnStores : List Event → (ℕ → ℕ) → ℕ → (ℕ → ℕ → ℕ) → Type 0
 OwnStores t pos i own = (h x : ℕ) → IsMax pos (Earlier (λ f. writes f.access x) t h i) (own h x)
-
-pub own_none : (t : List Event) (pos : ℕ → ℕ) (own : ℕ → ℕ → ℕ) → ((h x : ℕ) → own h x ≡ 0) → OwnStores t pos 0 own
-own_none t pos own z h x = subst (IsMax pos (Earlier (λ f. writes f.access x) t h 0)) (sym (z h x)) (earlier_none (λ f. writes f.access x) t pos h)
 
 pub own_step : (t : List Event) (pos : ℕ → ℕ) (i next : ℕ) (e : Event) (old new : ℕ → ℕ → ℕ) → e ≡ event t i → next ≡ pos i + 1 →
     ((h x : ℕ) → new h x ≡ (if h == e.hart && writes e.access x then max (old h x) next else old h x)) → OwnStores t pos i old → OwnStores t pos (i + 1) new
@@ -114,19 +110,10 @@ here_raised g i p h k a old new from at hart set x r =
     subst (λ q. source_at new q x ≡ max (source_at old q x) (from h x)) at
     (subst (λ n. source_at new p x ≡ max (source_at old p x) (from n x)) hart (set x r))
 
--- a list of zeros
-pub no_sources : (n p x : ℕ) → source_at (replicate n (replicate 8 0)) p x ≡ 0
-no_sources zero p x = refl
-no_sources (suc n) zero x = all_alike 0 x
-no_sources (suc n) (suc p) x = no_sources n p x
-
 -- ---- along the order: all stores to each byte
 
 abbrev pub SeenStores : List Event → (ℕ → ℕ) → ℕ → (ℕ → ℕ) → Type 0
 SeenStores t pos p seen = (x : ℕ) → IsMax pos (Below (λ f. writes f.access x) t pos p) (seen x)
-
-pub seen_none : (t : List Event) (pos : ℕ → ℕ) (seen : ℕ → ℕ) → ((x : ℕ) → seen x ≡ 0) → SeenStores t pos 0 seen
-seen_none t pos seen z x = subst (IsMax pos (Below (λ f. writes f.access x) t pos 0)) (sym (z x)) (below_none (λ f. writes f.access x) t pos)
 
 pub seen_step : (t : List Event) (g : List ℕ) (i p next : ℕ) (e : Event) (old new : ℕ → ℕ) → ListsOperations t g → e ≡ event t i → is_operation (event t i) ≡ true → order_position g i ≡ p → next ≡ p + 1 →
     ((x : ℕ) → new x ≡ (if writes e.access x then max (old x) next else old x)) → SeenStores t (order_position g) p old → SeenStores t (order_position g) (p + 1) new
@@ -139,9 +126,6 @@ seen_step t g i p next e old new lists is op at n set seen x =
 pub record Sourced (t : List Event) (g : List ℕ) (p : ℕ) (sources : ℕ → ℕ → ℕ) : Type 0 where
   pub noted : (r x : ℕ) → reads_at t r x ≡ true → order_position g r < p → IsMax (order_position g) (MaySee t (order_position g) r x) (sources r x)
   pub rest : (r x : ℕ) → reads_at t r x ≡ true → p ≤ order_position g r → IsMax (order_position g) (OwnWrite t r x) (sources r x)
-
-pub sourced_none : (t : List Event) (g : List ℕ) (sources : ℕ → ℕ → ℕ) → ((r x : ℕ) → reads_at t r x ≡ true → IsMax (order_position g) (OwnWrite t r x) (sources r x)) → Sourced t g 0 sources
-sourced_none t g sources own = record { noted = λ r x h l. absurd (omega (arith, l)); rest = λ r x h l. own r x h }
 
 may_join : (t : List Event) (pos : ℕ → ℕ) (r x u v : ℕ) → IsMax pos (OwnWrite t r x) u → IsMax pos (Below (λ f. writes f.access x) t pos (pos r)) v → IsMax pos (MaySee t pos r x) (max u v)
 may_join t pos r x u v own seen =

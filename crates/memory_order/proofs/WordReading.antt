@@ -14,17 +14,6 @@ below_eight x = mod-lt x (omega arith)
 pub all_alike : (v x : ℕ) → slice_index (replicate 8 v) (x % 8) ≡ v
 all_alike v x = get_or-replicate 8 (x % 8) v 0 (below_eight x)
 
-first_word : (a width x : ℕ) → a % 8 + width ≤ 8 → in_range a width x ≡ true → x / 8 ≡ a / 8
-first_word a width x l r =
-    let p = div-add-mod x 8 in
-    let q = div-add-mod a 8 in
-    let b : (a ≤ x) × (x < a + width) = (grind (arith, nat_tests), grind (arith, nat_tests)) in
-    let n = below_eight x in
-    omega (arith, p, q, l, b.0, b.1, n)
-
-pub read_word : (m : BTreeMap (ℕ × ℕ) (List ℕ)) (h a width x : ℕ) → a % 8 + width ≤ 8 → in_range a width x ≡ true → slice_index (word_of m h (a / 8)) (x % 8) ≡ bound m h x
-read_word m h a width x l r = ap (λ w. slice_index (word_of m h w) (x % 8)) (sym (first_word a width x l r))
-
 -- of an access that goes on in the next word
 pub read_across : (m : BTreeMap (ℕ × ℕ) (List ℕ)) (h a width x : ℕ) (result : List ℕ) → width ≤ 8 → in_range a width x ≡ true →
     ((j : ℕ) → slice_index result j ≡ (if in_range 0 (a % 8) j then slice_index (word_of m h (a / 8 + 1)) j else slice_index (word_of m h (a / 8)) j)) →

@@ -8,7 +8,7 @@ use Rattle.round_schedule.specs.declared.event.Event.{Event}
 use Rattle.round_schedule.specs.Positions.{ProgramBefore, event}
 use Rattle.memory_order.proofs.Facts.{or_cases, or_left, or_right}
 use Rattle.memory_order.specs.declared.registers.Registers.{Registers}
-use Rattle.memory_order.specs.Dependencies.{AddressDependency, AnyDependency, ControlDependency, DataDependency, Depends, IsSourceRegister, destination_at, registers_at}
+use Rattle.memory_order.specs.Dependencies.{AddressDependency, AnyDependency, DataDependency, Depends, IsSourceRegister, destination_at, registers_at}
 use Rattle.memory_order.specs.Registers.{registers_of}
 use Rattle.memory_order.proofs.Steps.{Carried_on, depends_earlier, depends_register, stays_down, stays_up, new_down, new_here, new_up}
 use Rattle.memory_order.proofs.Sourcing.{same_number}
@@ -237,25 +237,11 @@ dependents_step is t i h j to x itself old new known at same made here fit k =
 
 -- ---- what they say of a later operation of the hart
 
-pub control_is : (is : List Instr) (t : List Event) (a b : ℕ) (d : Dependents) → ProgramBefore t a b → AreDependents is t a (event t a).hart b d →
-    (d.steered ≡ true) ↔ ControlDependency is t a b
-control_is is t a b d before k = (
-  (λ e. let s = k.steered.0 e in (s.0, record { earlier = s.1; same_hart = s.2 ∙ before.same_hart }, s.3, s.4)),
-  (λ s. k.steered.1 (s.0, s.1.earlier, s.1.same_hart ∙ sym before.same_hart, s.2, s.3)),
-)
-
 pub between_is : (is : List Instr) (t : List Event) (a b : ℕ) (d : Dependents) → ProgramBefore t a b → AreDependents is t a (event t a).hart b d →
     (d.addressed ≡ true) ↔ AddressedBetween is t a b
 between_is is t a b d before k = (
   (λ e. let s = k.addressed.0 e in (s.0, record { earlier = s.1; same_hart = s.2 ∙ before.same_hart }, s.3)),
   (λ s. k.addressed.1 (s.0, s.1.earlier, s.1.same_hart ∙ sym before.same_hart, s.2)),
-)
-
-pub register_is : (is : List Instr) (t : List Event) (a b r : ℕ) (d : Dependents) → ProgramBefore t a b → AreDependents is t a (event t a).hart b d → r < 32 →
-    (is_dependent d r ≡ true) ↔ Depends is t (event t b).hart b r a
-register_is is t a b r d before k l = (
-  (λ e. subst (λ h. Depends is t h b r a) before.same_hart ((k.registers r l).0 e)),
-  (λ e. (k.registers r l).1 (subst (λ h. Depends is t h b r a) (sym before.same_hart) e)),
 )
 
 pub operand_earlier : (is : List Instr) (t : List Event) (a m : ℕ) → AddressDependency is t a m ⊎ DataDependency is t a m → a < m

@@ -51,36 +51,6 @@ asked_by k is t pos a b o = subst (λ j. Asks j is t pos a b) o.1 (rule_asks is 
 abbrev pub rules : List OrderRule
 rules = OverlappingStore ∷ DifferentWrites ∷ ReturnsAtomic ∷ Fenced ∷ Acquired ∷ Released ∷ BothAnnotated ∷ Paired ∷ ByAddress ∷ ByData ∷ ByControl ∷ ByForwarding ∷ ByAddressBetween ∷ []
 
-pub listed_rule : (k d : OrderRule) → get_or rules (number_of k - 1) d ≡ k
-listed_rule OverlappingStore d = refl
-listed_rule DifferentWrites d = refl
-listed_rule ReturnsAtomic d = refl
-listed_rule Fenced d = refl
-listed_rule Acquired d = refl
-listed_rule Released d = refl
-listed_rule BothAnnotated d = refl
-listed_rule Paired d = refl
-listed_rule ByAddress d = refl
-listed_rule ByData d = refl
-listed_rule ByControl d = refl
-listed_rule ByForwarding d = refl
-listed_rule ByAddressBetween d = refl
-
-pub at_least_one : (k : OrderRule) → 0 < number_of k
-at_least_one OverlappingStore = omega arith
-at_least_one DifferentWrites = omega arith
-at_least_one ReturnsAtomic = omega arith
-at_least_one Fenced = omega arith
-at_least_one Acquired = omega arith
-at_least_one Released = omega arith
-at_least_one BothAnnotated = omega arith
-at_least_one Paired = omega arith
-at_least_one ByAddress = omega arith
-at_least_one ByData = omega arith
-at_least_one ByControl = omega arith
-at_least_one ByForwarding = omega arith
-at_least_one ByAddressBetween = omega arith
-
 pub at_most_thirteen : (k : OrderRule) → number_of k ≤ 13
 at_most_thirteen OverlappingStore = omega arith
 at_most_thirteen DifferentWrites = omega arith

@@ -1,16 +1,8 @@
 -- Numbers of some bytes.
-use Rattle.std.proofs.Common.{◌≡◌, ℕ, suc, ◌+◌, ◌*◌, ◌^◌, ◌<◌, ◌≤◌, Option, Some, None, IfSome, sym, ap, ◌∙◌, subst, arith}
+use Rattle.std.proofs.Common.{◌≡◌, ℕ, suc, ◌+◌, ◌*◌, ◌^◌, ◌<◌, ◌≤◌, Option, IfSome, sym, ap, ◌∙◌, subst, arith}
 use Rattle.std.proofs.Math.Pow.{pow-add}
-use Rattle.std.proofs.Math.Pow.{pow_mono}
 use Rattle.all_endings.specs.RunStates.{RunState}
 use Rattle.private_bytes.specs.PrivateMoves.{joined, own_byte, own_number}
-
-pub few_bits : (k n : ℕ) → k ≤ 7 → n < 2 ^ (8 * k) → n < 2 ^ 56
-few_bits k n few l = let p : 2 ^ (8 * k) ≤ 2 ^ 56 = pow_mono {i = 8 * k} {j = 56} (omega (arith, few)) in omega (arith, l, p)
-
-pub if_few : (o : Option ℕ) (k : ℕ) → k ≤ 7 → IfSome o (λ n. n < 2 ^ (8 * k)) → IfSome o (λ n. n < 2 ^ 56)
-if_few None k few l = l
-if_few (Some n) k few l = few_bits k n few l
 
 -- one byte more
 pub own_more : (opening : ℕ → ℕ) (a : RunState) (address x n k : ℕ) (o rest : Option ℕ) → k ≡ n + 1 → x ≡ address + 1 → own_byte opening a address ≡ o → rest ≡ own_number opening a x n →

@@ -1,11 +1,10 @@
 -- A text that is printed piece by piece.
-use Rattle.std.proofs.Common.{◌≡◌, ◌∙◌, ◌++◌, ◌+◌, ◌<◌, [], ℕ, Err, OnErr, List, Ok, OnOk, Result, append-nil, append_assoc, ap, arith, inr, length, length-append, refl, subst, sym, take}
+use Rattle.std.proofs.Common.{◌≡◌, ◌∙◌, ◌++◌, ◌+◌, ◌<◌, [], ℕ, Err, List, Result, append-nil, append_assoc, ap, arith, length, length-append, subst, sym, take}
 use Rattle.std.proofs.Math.Seq.{take-append-add}
 use Rattle.std.proofs.lemmas.List.{take-append-le}
 use Rattle.std.proofs.lemmas.Result.{IfErr-weaker, on_err_weaker, on_ok_weaker}
 use Rattle.host_io.specs.Taken.{BeganText}
 use Rattle.host_io.specs.declared.error.RunError.{RunError}
-use Rattle.host_io.specs.declared.error.RunError.TheVariants.{SinkFailed}
 use Rattle.past_commands.specs.Watched.{Prints}
 use Rattle.program_files.specs.Failures.{IsCutOff}
 
@@ -39,18 +38,6 @@ since_before failed failed_mid failed_then e same h = subst (λ (n : ℕ). IsCut
 
 -- ---- calls
 
--- a text that was put at once
-pub prints_put : (text bytes old : List ℕ) (failed : ℕ) (r : Result (Unit {0}) RunError) (new : List ℕ) (failed_then : ℕ) → bytes ≡ text →
-    OnOk r (new ≡ old ++ bytes) → OnErr r (BeganText old new bytes) → OnErr r (failed < failed_then) → OnErr r (r ≡ Err SinkFailed) → OnOk r (failed_then ≡ failed) →
-    Prints text old failed r new failed_then
-prints_put text bytes old failed (Ok v) new failed_then is done begun fails only counts =
-    record { done = done ∙ ap (λ (t : List ℕ). old ++ t) is; counts = counts; begun = tt; errors = tt }
-prints_put text bytes old failed (Err e) new failed_then is done begun fails only counts =
-    record { done = tt; counts = tt; begun = subst (λ (t : List ℕ). BeganText old new t) is begun; errors = inr (same only, fails) }
-  where
-    same : ◌≡◌ {A = Result (Unit {0}) RunError} (Err e) (Err SinkFailed) → e ≡ SinkFailed
-    same q = cc
-
 -- a call that failed printed so much
 pub failed_so : {X : Type 0} (text old : List ℕ) (failed : ℕ) (new : List ℕ) (failed_then : ℕ) (r : Result X RunError) (e : RunError) → r ≡ Err e →
     BeganText old new text → IsCutOff (failed < failed_then) e → Prints text old failed r new failed_then
@@ -60,10 +47,6 @@ failed_so {X} text old failed new failed_then r e is begun cause =
 -- what a call that failed printed, and why
 pub begun_by : {X : Type 0} (text old : List ℕ) (failed : ℕ) (new : List ℕ) (failed_then : ℕ) (e : RunError) → Prints {X = X} text old failed (Err e) new failed_then → BeganText old new text
 begun_by text old failed new failed_then e p = p.begun
-
-pub cause_by : {X : Type 0} (text old : List ℕ) (failed : ℕ) (new : List ℕ) (failed_then : ℕ) (e : RunError) → Prints {X = X} text old failed (Err e) new failed_then →
-    IsCutOff (failed < failed_then) e
-cause_by text old failed new failed_then e p = p.errors
 
 -- the second part comes behind the first
 pub prints_second : {X : Type 0} (a b old mid new : List ℕ) (failed failed_mid failed_then : ℕ) (r : Result X RunError) → mid ≡ old ++ a → failed_mid ≡ failed →
@@ -84,9 +67,6 @@ pub record Halfway (old new all left : List ℕ) (failed failed_then : ℕ) : Ty
   pub both : front ++ left ≡ all
   pub counts : failed_then ≡ failed
 
-pub halfway_first : (old all : List ℕ) (failed : ℕ) → Halfway old old all all failed failed
-halfway_first old all failed = record { front = []; took = sym (append-nil old); both = refl; counts = refl }
-
 pub halfway_next : (old mid new all left line rest : List ℕ) (failed failed_mid failed_then : ℕ) → Halfway old mid all left failed failed_mid → left ≡ line ++ rest →
     new ≡ mid ++ line → failed_then ≡ failed_mid → Halfway old new all rest failed failed_then
 halfway_next old mid new all left line rest failed failed_mid failed_then h e n same = record {
@@ -101,7 +81,3 @@ pub halfway_stops : (old mid new all left line rest : List ℕ) (failed failed_m
 halfway_stops old mid new all left line rest failed failed_mid h e b =
     subst (λ (t : List ℕ). BeganText old new t) (ap (λ (t : List ℕ). h.front ++ t) (sym e) ∙ h.both)
     (began_second old mid new h.front (line ++ rest) h.took (began_first mid new line rest b))
-
-pub halfway_last : (old new all left : List ℕ) (failed failed_then : ℕ) → Halfway old new all left failed failed_then → left ≡ [] → new ≡ old ++ all
-halfway_last old new all left failed failed_then h e =
-    h.took ∙ ap (λ (t : List ℕ). old ++ t) (sym (append-nil h.front) ∙ ap (λ (t : List ℕ). h.front ++ t) (sym e) ∙ h.both)

@@ -3,9 +3,7 @@ use Rattle.std.proofs.Common.{◌≡◌, ◌⊎◌, ◌<◌, ◌≤◌, ℕ, Err
 use Rattle.host_io.specs.declared.error.RunError.{RunError}
 use Rattle.host_io.specs.declared.error.RunError.TheVariants as refusals
 use Rattle.program_files.specs.Failures.{out_of_memory}
-use Rattle.past_commands.specs.Refused.{IsAccepted, IsRefusal, IsRefusedRun}
-use Rattle.program_files.specs.declared.failure.CommandFailure.{CommandFailure}
-use Rattle.program_files.specs.declared.failure.CommandFailure.TheVariants.{Refused}
+use Rattle.past_commands.specs.Refused.{IsAccepted, IsRefusal}
 use Rattle.recording.specs.Recorded.{Recorded}
 use Rattle.round_schedule.specs.Bounds.{AreNoWorkers, AreWorkers}
 use Rattle.replayer.specs.Refusals.{RefusedInOrder}
@@ -28,14 +26,6 @@ refused_at n r e o = record {
   plan = λ cause good has least. ⊎_elim (λ q. inl (err_at e (refusals.Plan cause) q)) (λ q. inr (err_at e refusals.OutOfMemory q)) (o.plan cause good has least);
 }
 
-pub accepted_at : {X Y : Type 0} (n : ℕ) (r : Recorded) (v : X) (w : Y) → RefusedInOrder {X = X} n r (Ok v) → RefusedInOrder {X = Y} n r (Ok w)
-accepted_at n r v w o = record {
-  workers = λ bad. absurd (no_ok v refusals.WorkersOutOfRange (o.workers bad));
-  reasons = λ good. tt;
-  image = λ cause good least. absurd (⊎_elim (λ q. no_ok v (refusals.Image cause) q) (λ q. no_ok v refusals.OutOfMemory q) (o.image cause good least));
-  plan = λ cause good has least. absurd (⊎_elim (λ q. no_ok v (refusals.Plan cause) q) (λ q. no_ok v refusals.OutOfMemory q) (o.plan cause good has least));
-}
-
 -- memory is refused behind what would refuse the run
 pub memory_at : {X Y : Type 0} (n : ℕ) (r : Recorded) (v : X) → RefusedInOrder {X = X} n r (Ok v) → RefusedInOrder {X = Y} n r (Err refusals.OutOfMemory)
 memory_at n r v o = record {
@@ -48,10 +38,6 @@ memory_at n r v o = record {
 -- a run that was accepted has workers
 pub are_workers : {X : Type 0} (n : ℕ) (r : Recorded) (v : X) → RefusedInOrder {X = X} n r (Ok v) → AreWorkers n
 are_workers n r v o = (omega (arith, λ (lt : n < 1). no_ok v refusals.WorkersOutOfRange (o.workers (inl lt))), omega (arith, λ (lt : 16 < n). no_ok v refusals.WorkersOutOfRange (o.workers (inr lt))))
-
--- the failures
-pub refused_run : {X : Type 0} (n : ℕ) (r : Recorded) (e : RunError) (f : CommandFailure) → f ≡ Refused e → RefusedInOrder {X = X} n r (Err e) → IsRefusedRun n r f
-refused_run n r e f is o = inr (e, is, refused_at n r e o)
 
 -- why a call was refused
 pub refusal_of : {X : Type 0} (n : ℕ) (r : Recorded) (result : Result X RunError) → RefusedInOrder n r result → IfErr result (IsRefusal n r)

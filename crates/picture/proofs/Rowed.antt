@@ -1,36 +1,16 @@
 -- The rows of a list of indexes, and how many of them are the same load.
-use Rattle.std.proofs.Common.{◌≡◌, ℕ, suc, ◌+◌, ◌<◌, Bool, true, false, if◌then◌else◌, List, [], ◌∷◌, ◌++◌, length, drop, get_or, None, refl, sym, ap, ◌∙◌, append_assoc, arith}
+use Rattle.std.proofs.Common.{◌≡◌, ℕ, suc, ◌+◌, ◌<◌, Bool, true, false, if◌then◌else◌, List, [], ◌∷◌, ◌++◌, length, drop, get_or, ap, ◌∙◌, arith}
 use Rattle.std.proofs.Math.Seq.{drop-cons}
 use Rattle.round_schedule.specs.declared.event.Event.{Event}
 use Rattle.byte_sources.specs.Repeats.{repeats}
 use Rattle.picture.specs.declared.rows.Row.{Row}
-use Rattle.picture.specs.Rows.{is_more, index_before, row, rows_after, times}
+use Rattle.picture.specs.Rows.{index_before, rows_after, times}
 
 -- ---- the rows
 
 -- the rows of the indexes from number k on
 abbrev pub rows_at : List Event → List ℕ → ℕ → List Row
 rows_at t is k = rows_after t (index_before is k) (drop k is)
-
-one_on : (t : List Event) (is : List ℕ) (k : ℕ) → k < length is →
-    rows_at t is k ≡ (if is_more t (index_before is k) (get_or is k 0) then rows_at t is (k + 1) else row t (get_or is k 0) (drop (k + 1) is) ∷ rows_at t is (k + 1))
-one_on t is k l =
-    let e : k + 1 ≡ suc k = omega arith in
-    let d : drop k is ≡ get_or is k 0 ∷ drop (suc k) is = drop-cons is k 0 l in
-    rw (d, e) refl
-
--- an index that has no row
-pub row_passed : (t : List Event) (is : List ℕ) (k : ℕ) (rows : List Row) → k < length is → is_more t (index_before is k) (get_or is k 0) ≡ true →
-    rows ++ rows_at t is k ≡ rows_after t None is → rows ++ rows_at t is (k + 1) ≡ rows_after t None is
-row_passed t is k rows l more h =
-    ap (λ (rs : List Row). rows ++ rs) (sym (one_on t is k l ∙ ap (λ (b : Bool). if b then rows_at t is (k + 1) else row t (get_or is k 0) (drop (k + 1) is) ∷ rows_at t is (k + 1)) more)) ∙ h
-
--- one that has
-pub row_added : (t : List Event) (is : List ℕ) (k : ℕ) (rows : List Row) → k < length is → is_more t (index_before is k) (get_or is k 0) ≡ false →
-    rows ++ rows_at t is k ≡ rows_after t None is → (rows ++ row t (get_or is k 0) (drop (k + 1) is) ∷ []) ++ rows_at t is (k + 1) ≡ rows_after t None is
-row_added t is k rows l first h =
-    append_assoc rows (row t (get_or is k 0) (drop (k + 1) is) ∷ []) (rows_at t is (k + 1))
-    ∙ ap (λ (rs : List Row). rows ++ rs) (sym (one_on t is k l ∙ ap (λ (b : Bool). if b then rows_at t is (k + 1) else row t (get_or is k 0) (drop (k + 1) is) ∷ rows_at t is (k + 1)) first)) ∙ h
 
 -- ---- how many are the same load
 

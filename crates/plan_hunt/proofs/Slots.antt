@@ -2,7 +2,7 @@
 use Rattle.std.proofs.Common.{◌≡◌, ℕ, zero, suc, ◌+◌, ◌<◌, ◌≤◌, inl, inr, List, [], ◌∷◌, ◌++◌, length, get_or, set, take, drop, All, Option, Some, None, IfSome, refl, sym, ◌∙◌, ap, subst, arith, append-nil}
 use Rattle.std.proofs.Math.Seq.{drop-length, take-length}
 use Rattle.std.specs.List.{Any}
-use Rattle.std.proofs.lemmas.Bool.{cases_eq, cases_lt}
+use Rattle.std.proofs.lemmas.Bool.{cases_eq}
 use Rattle.std.proofs.lemmas.List.{get_or-set_other, get_or-set_same, get_or_append_left, length-set, length-append}
 use Rattle.std.proofs.lemmas.List.Quantifiers.{Any-push}
 use Rattle.plan_hunt.specs.Endings.{Ended}
@@ -15,14 +15,8 @@ Slots = List (Option Ended)
 some_is : (a b : Ended) → ◌≡◌ {A = Option Ended} (Some a) (Some b) → a ≡ b
 some_is a b e = cc
 
-some_not : (a : Ended) → ◌≡◌ {A = Option Ended} None (Some a) → ⊥
-some_not a e = cc
-
 any_pushed : (P : Found → Type 0) (xs : List Found) (y : Found) → Any P xs → Any P (xs ++ y ∷ [])
 any_pushed P xs y a = (a.0, a.1, omega (arith, a.2, length-append xs (y ∷ [])), get_or_append_left xs (y ∷ []) a.1 a.0 a.2 ∙ a.3, a.4)
-
-pub filled_none : (old : Slots) → AreFilled old [] old
-filled_none old = record { length = refl; each = λ k e h. inl h }
 
 -- one more was left out, since it has no slot
 pub filled_skip : (old new : Slots) (found : List Found) (f : Found) → AreFilled old found new → AreFilled old (found ++ f ∷ []) new
@@ -54,17 +48,6 @@ slots_filled ends first old new found s h f = λ k e at. elim (f.each k e at) [
       sym a.4.1 ∙ is ∙ ap (λ (i : ℕ). ends (first + i)) a.4.0
 ]
 
-pub slots_empty : (ends : ℕ → Ended) (first : ℕ) (slots : Slots) → All (λ s. s ≡ None) slots → AreSlots ends first slots
-slots_empty ends first slots h = λ k e at. elim (cases_lt k (length slots)) [
-  | inl l ↦ absurd (some_not e (sym (h k None l) ∙ at))
-  | inr m ↦ absurd (some_not e (sym (past slots k m) ∙ at))
-]
-  where
-    past : (xs : Slots) (k : ℕ) → length xs ≤ k → get_or xs k None ≡ None
-    past [] k l = refl
-    past (x ∷ xs) zero l = absurd (omega (arith, l))
-    past (x ∷ xs) (suc k) l = past xs k (omega (arith, l))
-
 -- what is taken out of a slot
 pub slot_holds : (ends : ℕ → Ended) (first : ℕ) (slots : Slots) (i : ℕ) (was taken : Option Ended) → AreSlots ends first slots → i < length slots → was ≡ get_or slots i was → taken ≡ was →
     IfSome taken (λ e. e ≡ ends (first + i))
@@ -75,21 +58,6 @@ slot_holds ends first slots i was (Some e) s l at same = s i e (any_default slot
     any_default [] j d f lt = absurd (omega (arith, lt))
     any_default (x ∷ xs) zero d f lt = refl
     any_default (x ∷ xs) (suc j) d f lt = any_default xs j d f (omega (arith, lt))
-
--- a slot is emptied
-pub slots_taken : (ends : ℕ → Ended) (first : ℕ) (slots : Slots) (i : ℕ) → AreSlots ends first slots → AreSlots ends first (set slots i None)
-slots_taken ends first slots i s = λ k e at. elim (cases_eq k i) [
-  | inl same ↦ elim (cases_lt i (length slots)) [
-    | inl l ↦ absurd (some_not e (sym (ap (λ (j : ℕ). get_or (set slots i None) j None) same ∙ get_or-set_same slots i None None l) ∙ at))
-    | inr m ↦ s k e (sym (ap (λ (xs : Slots). get_or xs k None) (set_past slots i m)) ∙ at)
-  ]
-  | inr ne ↦ s k e (sym (get_or-set_other slots i k None None ne) ∙ at)
-]
-  where
-    set_past : (xs : Slots) (j : ℕ) → length xs ≤ j → set xs j None ≡ xs
-    set_past [] j l = refl
-    set_past (x ∷ xs) zero l = absurd (omega (arith, l))
-    set_past (x ∷ xs) (suc j) l = ap (λ (ys : Slots). x ∷ ys) (set_past xs j (omega (arith, l)))
 
 -- what is written back over all slots
 pub written : (n : ℕ) (new old : Slots) → n ≡ length old → length new ≡ length old → take n (new ++ drop (length new) old) ≡ new

@@ -41,15 +41,9 @@ has_more = refl
 is_empty : reading [] ≡ Err NotARecording
 is_empty = refl
 
-no_magic : reading (take 7 text) ≡ Err NotARecording
-no_magic = refl
-
 is_read_2 : reading text_2 ≡ Ok second
 unfolding taken_each
 is_read_2 = refl
-
-is_written_2 : recording.spelled second ≡ text_2
-is_written_2 = refl
 
 long : length (recording.spelled third) ≡ 629
 long = refl

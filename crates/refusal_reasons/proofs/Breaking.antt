@@ -20,9 +20,6 @@ none_more is t pos a b old here rule c l = elim (cases_lt c a) [
   | inr high ↦ let e : c ≡ a = omega (arith, l, high) in (λ k. here rule (subst (λ n. IsBroken rule is t pos n b) e k))
 ]
 
-pub none_if_straight : (is : List Instr) (t : List Event) (pos : ℕ → ℕ) (a b : ℕ) → (IsTurned t pos a b → ⊥) → (rule : OrderRule) → IsBroken rule is t pos a b → ⊥
-none_if_straight is t pos a b straight rule k = straight (record { first = k.first; second = k.second; before = k.before; turned = k.broken })
-
 pub none_if_unasked : (is : List Instr) (t : List Event) (pos : ℕ → ℕ) (a b : ℕ) → NoneAsks is t pos a b → (rule : OrderRule) → IsBroken rule is t pos a b → ⊥
 none_if_unasked is t pos a b none rule k = none rule (asked_by rule is t pos a b k.ordered)
 

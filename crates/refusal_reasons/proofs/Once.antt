@@ -18,9 +18,6 @@ lists_from t g only once each = record {
   once = λ i j d l k e. once i j l k (get_or_default g i 0 d (omega (arith, l, k)) ∙ e ∙ get_or_default g j d 0 k);
 }
 
-pub contains_at : (g : List ℕ) (a k : ℕ) → k < length g → get_or g k 0 ≡ a → Contains g a
-contains_at g a k l e = (k, l, get_or_default g k a 0 l ∙ e)
-
 -- ---- the first position of each index
 
 pub firsts_set : (t : List Event) (g r : List ℕ) (p i : ℕ) → AreFirstPositions t g p r → p < length g → get_or g p 0 ≡ i → i < length t → get_or r i 0 ≡ length g →
@@ -81,23 +78,3 @@ stands_twice t g r p m l low other =
       | inl e ↦ absurd (omega (arith, e, f, l))
       | inr e ↦ (get_or r (get_or g p 0) 0, p, omega (arith, f, other), l, e.1, refl)
     ]
-
-pub none_twice : (g r : List ℕ) → ((k : ℕ) → k < length g → get_or r (get_or g k 0) 0 ≡ k) → (i j : ℕ) → i < j → j < length g → get_or g i 0 ≢ get_or g j 0
-none_twice g r each i j l k e =
-    let a = each i (omega (arith, l, k)) in
-    let b = each j k in
-    let s = ap (λ n. get_or r n 0) e in
-    omega (arith, a, b, s, l)
-
-pub absent_everywhere : (t : List Event) (g r : List ℕ) (i : ℕ) → AreFirstPositions t g (length g) r → get_or r i 0 ≡ length g → Contains g i → ⊥
-absent_everywhere t g r i m e h =
-    let s = ap (λ n. get_or r n 0) (get_or_default g h.0 0 i h.1 ∙ h.2) in
-    let f = m.first h.0 h.1 in
-    let l = h.1 in
-    omega (arith, s, f, e, l)
-
-pub there_somewhere : (t : List Event) (g r : List ℕ) (i : ℕ) → AreFirstPositions t g (length g) r → i < length t → get_or r i 0 ≢ length g → Contains g i
-there_somewhere t g r i m l e = elim (m.there i l) [
-  | inl b ↦ absurd (e b)
-  | inr b ↦ contains_at g i (get_or r i 0) b.0 b.1
-]

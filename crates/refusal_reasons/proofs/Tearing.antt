@@ -19,14 +19,6 @@ undisturbed_from_none t pos c x None early none = λ v w o b.
 undisturbed_from_none t pos c x (Some s) early none =
     (early, λ v w o a b. none v (within t v (store_at t v x w)) (record { writes = w; other = o; before = b; after = a }))
 
-pub lies_against : (t : List Event) (pos : ℕ → ℕ) (c x : ℕ) (s : Option ℕ) (v : ℕ) → LiesBetween t pos c x s v → IsUndisturbed t pos c x s → ⊥
-lies_against t pos c x None v l k = k v l.writes l.other l.before
-lies_against t pos c x (Some s) v l k = k.1 v l.writes l.other l.after l.before
-
-pub undisturbed_precedes : (t : List Event) (pos : ℕ → ℕ) (c x : ℕ) (s : Option ℕ) → IsUndisturbed t pos c x s → MatchOption s (Unit {0}) (λ n. pos n < pos c)
-undisturbed_precedes t pos c x None k = tt
-undisturbed_precedes t pos c x (Some s) k = k.0
-
 -- no index stands past the order's length
 length_step : (b : Bool) (n m : ℕ) → n ≤ m → (if b then 0 else suc n) ≤ suc m
 length_step true n m h = omega arith

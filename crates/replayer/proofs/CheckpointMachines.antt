@@ -182,15 +182,6 @@ is_found o k low e =
 
 -- ---- which one is the last before a round
 
-quotient_up : (e m n : ℕ) → 0 < e → m ≤ n → m / e ≤ n / e
-quotient_up e m n some le =
-    let lt : m / e < n / e + 1 = lt_of_mul-lt-mul_left e (omega (arith, some, le)) in
-    omega (arith, lt)
-
-pub last_there : (every rounds all : ℕ) → 0 < every → rounds ≤ all → rounds / every < checkpoints_of every all
-last_there zero rounds all some le = absurd (omega (arith, some))
-last_there (suc e) rounds all some le = omega (arith, quotient_up (suc e) rounds all (omega arith) le, of_some e all)
-
 -- after the rounds that are left, a copy of it is the machine after as many rounds as are wanted
 pub going_on : (o : Opened) (k left rounds every : ℕ) (m copy : Running) → every ≡ o.every → k * every + left ≡ rounds → checkpoint_machine o k ≡ Some m → copy ≡ m → after_rounds left copy ≡ after_rounds rounds o.start
 going_on o k left rounds every m copy same sum at e =

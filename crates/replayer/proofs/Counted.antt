@@ -6,7 +6,7 @@ use Rattle.round_schedule.proofs.PastEnds.{rounds_length}
 use Rattle.round_planner.specs.Quotas.{Planned, quotas_of}
 use Rattle.hart_step.specs.declared.hart.Hart.{Hart}
 use Rattle.hart_step.specs.Words.{words_of}
-use Rattle.machine.specs.Machine.{Running, after_round, after_rounds, opening}
+use Rattle.machine.specs.Machine.{Running, after_rounds, opening}
 use Rattle.guest_rounds.specs.Opening.{opening_hart, opening_harts}
 
 serial_keeps : {H C : Type 0} (w : Words H C) (budget i : ℕ) (rs : List (HartRound H)) (s : State H C) → (serial_from w budget i rs s).rounds ≡ s.rounds
@@ -48,9 +48,6 @@ run_length w budget quotas (suc n) s = run_length w budget quotas n (round_of w 
 
 pub harts_after : (n : ℕ) (m : Running) → length (after_rounds n m).state.harts ≡ length m.state.harts
 harts_after n m = run_length (words_of m.code) m.plan.budget (quotas_of m.plan) n m.state
-
-pub harts_next : (m : Running) → length (after_round m).state.harts ≡ length m.state.harts
-harts_next m = round_length (words_of m.code) m.plan.budget (quotas_of m.plan) m.state
 
 opening_length : (entry n i k : ℕ) → length (opening_harts entry n i k) ≡ k
 opening_length entry n i zero = refl

@@ -10,9 +10,6 @@ use Rattle.report.specs.Pending.{Way, way, Split, Refused, Wrote}
 abbrev Answer : Type 0
 Answer = Result (Unit {0}) RunError
 
-split_none : (took line : List ℕ) → Split took took line line
-split_none took line = record { gone = []; out = sym (append-nil took); text_is = refl }
-
 split_then : (a b c l t r u q : List ℕ) → Split a b (l ++ t) r → Split b c (r ++ u) q → Split a c (l ++ (t ++ u)) q
 split_then a b c l t r u q p n = record {
   gone = p.gone ++ n.gone;

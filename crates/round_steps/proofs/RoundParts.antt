@@ -1,39 +1,22 @@
 -- The parts of a round, as they are walked over.
-use Rattle.std.proofs.Common.{◌≡◌, ℕ, zero, suc, ◌+◌, ◌-◌, ◌<◌, ◌==◌, ◌||◌, Bool, true, false, cond, List, [], ◌∷◌, ◌++◌, length, get_or, inl, inr, length-append, add-one, slice_get, slice_index, is_some, Option, Some, None, refl, sym, ◌∙◌, ap, arith}
+use Rattle.std.proofs.Common.{◌≡◌, ℕ, zero, suc, ◌+◌, ◌-◌, ◌<◌, ◌==◌, ◌||◌, false, cond, List, [], ◌∷◌, ◌++◌, length, get_or, inl, inr, length-append, add-one, slice_get, slice_index, is_some, Option, Some, None, refl, sym, ◌∙◌, ap, arith}
 use Rattle.std.specs.Prelude.{◌⊎◌}
 use Rattle.std.proofs.Math.ListN.{get_or-append}
 use Rattle.std.proofs.Math.Seq.{get_or-append_seam}
 use Rattle.std.proofs.lemmas.Bool.{cases_eq}
 use Rattle.pages.specs.declared.access.Range.{Range}
-use Rattle.pages.specs.Memory.{Memory}
 use Rattle.round_schedule.specs.Past.{last_of}
 use Rattle.round_planner.specs.Quotas.{Planned, quota_of, quotas_of}
 use Rattle.hart_step.specs.declared.hart.Hart.{Hart}
-use Rattle.hart_step.specs.Buffered.{Overlay, seen_through}
-use Rattle.moments.specs.Hits.{harts_in_part, hits_from}
-use Rattle.moments.specs.Bytes.{sight_of}
+use Rattle.moments.specs.Hits.{harts_in_part}
 use Rattle.moments.specs.declared.asked.Asked.{Asked}
 use Rattle.past_harts.specs.declared.place.Place.{Place}
 use Rattle.past_harts.specs.Begun.{Begun}
 use Rattle.past_harts.proofs.Begun.{got}
-use Rattle.round_steps.specs.Places.{parallel_places, part_counts, part_places, turn_at, turn_comes, turns_of}
+use Rattle.round_steps.specs.Places.{parallel_places, part_places, turn_at, turn_comes, turns_of}
 
 get_or-append_seam_at : {A : Type 0} (xs : List A) (x : A) (i : ℕ) (d : A) → i ≡ length xs → get_or (xs ++ x ∷ []) i d ≡ x
 get_or-append_seam_at xs x i d e = ap (λ (k : ℕ). get_or (xs ++ x ∷ []) k d) e ∙ get_or-append_seam xs x [] d
-
--- through an empty buffer the part is that on memory
-pub part_through : (v : Overlay) (m : Memory) (q : ℕ) (h : Hart) → v ≡ record { base = m; bytes = [] } →
-    harts_in_part (seen_through v).code q (sight_of h (seen_through v)) ≡ harts_in_part m.code q (sight_of h m)
-part_through v m q h e = ap (λ (y : Overlay). harts_in_part (seen_through y).code q (sight_of h (seen_through y))) e
-
-pub counts_are : (f : Hart → Bool) (h : Hart) (part : List Hart) (counts : List ℕ) → is_some h.stop ≡ false → counts ≡ hits_from f 0 part → counts ≡ part_counts f h part
-counts_are f h part counts hs e = rw hs e
-
-pub stopped_counts : (f : Hart → Bool) (h : Hart) (part : List Hart) → is_some h.stop ≡ true → part_counts f h part ≡ []
-stopped_counts f h part hs = rw hs refl
-
-pub stopped_turn : (quota : ℕ) (h : Hart) (part : List Hart) → is_some h.stop ≡ true → None ≡ turn_comes quota h part
-stopped_turn quota h part hs = rw hs refl
 
 -- where a part ended as g after so many
 pub turn_is : (quota done : ℕ) (h g : Hart) (part : List Hart) (t : Option ℕ) → is_some h.stop ≡ false → last_of part ≡ Some g → length part ≡ done + 1 →

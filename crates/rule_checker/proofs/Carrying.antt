@@ -18,7 +18,7 @@ use Rattle.memory_order.specs.Dependencies.{AddressDependency, AnyDependency, Da
 use Rattle.memory_order.proofs.Steps.{Carried_on, depends_earlier, depends_hart, depends_register, stays_down, stays_up, new_down, new_here, new_up}
 use Rattle.rule_checker.specs.declared.carried.Carried.{Carried}
 use Rattle.memory_order.specs.Checking.{IsMax}
-use Rattle.rule_checker.specs.CarriedBounds.{AllowedBy, AreOperands, AreRegisters, MayForwardAll, carried_after, destination_with, none_carried, operand_bound, result_bound, sources_bound}
+use Rattle.rule_checker.specs.CarriedBounds.{AllowedBy, AreOperands, AreRegisters, MayForwardAll, carried_after, none_carried, operand_bound, result_bound, sources_bound}
 use Rattle.memory_order.proofs.Bounding.{below_max, max_alike, max_below, max_join, max_join_if, max_none, max_one}
 
 -- ---- registers
@@ -43,9 +43,6 @@ length-set_reg xs d v = elim (cases_eq d 0) [
   | inl z ↦ ap length (cond-true (d == 0) xs (slice_set xs d v) (eq-eqb d 0 z))
   | inr z ↦ ap length (cond-false (d == 0) xs (slice_set xs d v) (ne_eqb d 0 z)) ∙ length-set xs d v
 ]
-
-reg_zero : (xs : List ℕ) → reg xs 0 ≡ 0
-reg_zero xs = refl
 
 -- ---- the bounds of a hart before index j
 
@@ -123,10 +120,6 @@ sources_are is t pos h j c x fit k =
     Others a = (is_operation (event t a) ≡ true) × (Depends is t h j x.first a ⊎ Depends is t h j x.second a)
 
 -- ---- one more instruction
-
-pub destination_same : (is : List Instr) (t : List Event) (j : ℕ) (e : Event) (x : Registers) → e ≡ event t j → x ≡ registers_at is j → destination_at is t j ≡ destination_with x e.access
-destination_same is t j e x at known = sym (
-    ap (λ (y : Registers). destination_with y e.access) known ∙ ap (λ (f : Event). destination_with (registers_at is j) f.access) at)
 
 -- the instruction itself, where it is a memory operation, and what it carries on
 result_is : (is : List Instr) (t : List Event) (pos : ℕ → ℕ) (h j next : ℕ) (c : Carried) → AreRegisters (registers_at is j) → next ≡ pos j + 1 → Carries is t pos h j c →

@@ -12,7 +12,7 @@ use Rattle.memory_order.specs.Rvwmo.{IsSource, MaySee}
 use Rattle.memory_order.proofs.Sources.{load_at, one_position, store_at}
 use Rattle.memory_order.specs.Checking.{Earlier, IsMax}
 use Rattle.rule_checker.specs.Bytes.{RespectsBytesAt, IsForwarded, MayLoad, RuleByByte, byte-atomic, byte-different, byte-overlap}
-use Rattle.memory_order.proofs.Bounding.{below_max, earlier_none, earlier_step, max_below, max_join_if, max_none}
+use Rattle.memory_order.proofs.Bounding.{below_max, earlier_none, earlier_step, max_below, max_join_if}
 use Rattle.rule_checker.proofs.Carrying.{bound_of_source, listed_at, source_of_bound, split_place}
 use Rattle.memory_order.proofs.Sourcing.{same_number}
 
@@ -47,9 +47,6 @@ SeenBy t pos h i x w = (a : ℕ) × (a < i) × ((event t a).hart ≡ h) × (read
 
 abbrev pub Seen : List Event → (ℕ → ℕ) → ℕ → (ℕ → ℕ → ℕ) → Type 0
 Seen t pos i seen = (h x : ℕ) → IsMax pos (SeenBy t pos h i x) (seen h x)
-
-pub seen_by_none : (t : List Event) (pos : ℕ → ℕ) (seen : ℕ → ℕ → ℕ) → ((h x : ℕ) → seen h x ≡ 0) → Seen t pos 0 seen
-seen_by_none t pos seen z h x = subst (IsMax pos (SeenBy t pos h 0 x)) (sym (z h x)) (max_none pos (SeenBy t pos h 0 x) (λ w p. omega (arith, p.1)))
 
 pub seen_by_step : (t : List Event) (pos : ℕ → ℕ) (i : ℕ) (e : Event) (sources old new : ℕ → ℕ → ℕ) → e ≡ event t i →
     ((h x : ℕ) → new h x ≡ (if h == e.hart && reads e.access x then max (old h x) (sources i x) else old h x)) →

@@ -1,15 +1,8 @@
 -- What is kept of the bytes that a hart has touched, one record after another.
-use Rattle.std.proofs.Common.{◌≡◌, ◌≢◌, ℕ, suc, zero, ◌+◌, ◌<◌, ◌==◌, Bool, true, false, if◌then◌else◌, List, [], ◌∷◌, ◌++◌, length, get_or, drop, set, refl, sym, ap, ◌∙◌, arith}
+use Rattle.std.proofs.Common.{◌≡◌, ◌≢◌, ℕ, suc, zero, ◌+◌, ◌<◌, ◌==◌, Bool, true, false, if◌then◌else◌, List, [], ◌∷◌, ◌++◌, length, get_or, set, refl, sym, ap, ◌∙◌, arith}
 use Rattle.std.proofs.lemmas.Bool.{eqb-true, ne_eqb}
-use Rattle.std.proofs.lemmas.List.{at_drop_more}
 use Rattle.run_bounds.specs.declared.touched.TouchedByte.{TouchedByte}
 use Rattle.run_bounds.specs.Touched.{known_at}
-
-pub known_more : (bs : List TouchedByte) (i x : ℕ) (b : TouchedByte) → i < length bs → b ≡ get_or bs i b →
-    known_at (drop i bs) x ≡ (if b.address == x then b else known_at (drop (i + 1) bs) x)
-known_more bs i x b l e =
-    at_drop_more (λ (s : List TouchedByte). known_at s x) bs i b l
-    ∙ ap (λ (y : TouchedByte). if y.address == x then y else known_at (drop (i + 1) bs) x) (sym e)
 
 pick : (p q : Bool) (c b k : TouchedByte) → (p ≡ true → q ≡ false) → (if p then c else (if q then b else k)) ≡ (if q then b else (if p then c else k))
 pick true true c b k n = absurd (let f = n refl in cc)

@@ -1,5 +1,5 @@
 -- What the parts of the parallel phase have of events is what a hart's past has.
-use Rattle.std.proofs.Common.{◌≡◌, ℕ, zero, suc, ◌+◌, ◌-◌, ◌<◌, ◌≤◌, ◌==◌, true, List, [], ◌∷◌, ◌++◌, All, length, get_or, map, take, slice_get, slice_index, Option, Some, None, is_some, option_map, refl, sym, ap, subst, ◌∙◌, arith}
+use Rattle.std.proofs.Common.{◌≡◌, ℕ, zero, suc, ◌+◌, ◌-◌, ◌<◌, ◌≤◌, ◌==◌, true, List, [], ◌∷◌, ◌++◌, All, length, map, take, slice_get, slice_index, Option, Some, None, is_some, option_map, refl, sym, ap, subst, ◌∙◌, arith}
 use Rattle.std.specs.List.{prefix_len}
 use Rattle.std.proofs.lemmas.Bool.Decides.{nat_tests}
 use Rattle.std.proofs.lemmas.List.Elements.{All-take, All-weaker}
@@ -75,19 +75,6 @@ walk_is u v mem q i h ev em eq =
 
 -- ---- an event that no part has
 
-serial_none : (u : Untraced) (e : Event) (p : Phase) → p ≡ Serial → pc_by_phase p u e ≡ None
-serial_none u e p is = rw is refl
-
-pub none_of_serial : (u : Untraced) (e : Event) → e.phase ≡ Serial → pc_in_parts u e ≡ None
-none_of_serial u e is = serial_none u e e.phase is
-
-no_hart_by : (u : Untraced) (e : Event) (p : Phase) → slice_get u.harts e.hart ≡ None → pc_by_phase p u e ≡ None
-no_hart_by u e Serial none = refl
-no_hart_by u e Parallel none = ap (pc_of_hart u e) none
-
-pub none_of_no_hart : (u : Untraced) (e : Event) → slice_get u.harts e.hart ≡ None → pc_in_parts u e ≡ None
-none_of_no_hart u e none = no_hart_by u e e.phase none
-
 -- ---- one that a part has
 
 record HasPc (hs : List Hart) (c pc : ℕ) : Type 0 where
@@ -140,8 +127,3 @@ module _ (m : Running) (u : Untraced) (is : IsUntraced m u) where
 pub some_found : (m : Running) (u : Untraced) → IsUntraced m u → (e : Event) (found : Option ℕ) → found ≡ pc_in_parts u e → is_some found ≡ true → found ≡ pc_in_next m e
 some_found m u is e None f some = absurd cc
 some_found m u is e (Some pc) f some = sym (found_is m u is e pc (sym f))
-
--- one event without a pc
-pub first_none : (f : Event → Option ℕ) (es : List Event) (e d : Event) (old new : List (Option ℕ)) → 1 ≤ length es → e ≡ get_or es 0 d → f e ≡ None → new ≡ old ++ None ∷ [] → new ≡ old ++ map f (take 1 es)
-first_none f [] e d old new some first none added = absurd (omega (arith, some))
-first_none f (x ∷ xs) e d old new some first none added = added ∙ ap (λ (p : Option ℕ). old ++ p ∷ []) (sym none ∙ ap f first)

@@ -1,20 +1,17 @@
 -- The pcs of events of a round, from a machine before it.
-use Rattle.std.proofs.Common.{◌≡◌, ℕ, ◌+◌, ◌-◌, ◌<◌, ◌≤◌, ◌==◌, ◌⊎◌, true, List, All, length, length-drop, drop, take, get_or, map, OnOk, Result, Ok, Err, Option, None, option_map, inl, inr, sym, ap, subst, ◌∙◌, arith}
+use Rattle.std.proofs.Common.{◌≡◌, ℕ, ◌+◌, ◌-◌, ◌<◌, ◌≤◌, ◌==◌, ◌⊎◌, true, List, All, length, length-drop, drop, take, get_or, map, OnOk, Result, Ok, Err, None, option_map, inl, inr, sym, ap, subst, ◌∙◌, arith}
 use Rattle.std.specs.List.{prefix_len}
 use Rattle.std.proofs.lemmas.Bool.Decides.{nat_tests}
 use Rattle.std.proofs.lemmas.List.Elements.{All-drop, All-get_or, All-weaker}
 use Rattle.round_schedule.specs.declared.event.Event.{Event}
 use Rattle.round_schedule.specs.Accesses.{place_of}
-use Rattle.round_schedule.specs.Past.{hart_after}
-use Rattle.round_planner.specs.Quotas.{quotas_of}
 use Rattle.hart_step.specs.declared.hart.Hart.{Hart}
-use Rattle.hart_step.specs.Words.{words_of}
 use Rattle.machine.specs.Machine.{Running, after_rounds}
 use Rattle.machine.specs.Untraced.{IsAfter, IsUntraced, Untraced}
 use Rattle.machine.proofs.Repeated.{more_rounds}
 use Rattle.run_events.specs.Pcs.{IsAfterRounds, done_before, done_by, hart_at, pc_before, pc_in_next}
 use Rattle.run_events.proofs.RoundsAt.{after_last, first_is_1, from_before}
-use Rattle.run_events.proofs.StretchByStretch.{counts_first, front_passes, same_on}
+use Rattle.run_events.proofs.StretchByStretch.{front_passes, same_on}
 
 -- ---- a machine of a run
 
@@ -41,18 +38,6 @@ no_round rounds m e none = ap (option_map (λ (h : Hart). h.pc)) (first_is_1 rou
 
 past_the_last : (rounds : ℕ) (m : Running) (e : Event) → rounds < e.round → None ≡ pc_before rounds m e
 past_the_last rounds m e l = ap (option_map (λ (h : Hart). h.pc)) (after_last rounds m e.round e.hart (place_of e.access - done_before m e.round e.hart) l)
-
--- of an event of the next round
-pub pc_asked_is : (m : Running) (e : Event) (u v : Untraced) (done hart count : ℕ) (found : Option Hart) (pc : Option ℕ) → IsUntraced m u → hart ≡ e.hart → done ≡ done_by u.harts hart → count ≡ place_of e.access - done → v ≡ u →
-    ((x : Running) → IsUntraced x v → found ≡ hart_after (words_of x.code) x.plan.budget (quotas_of x.plan) x.state hart count) → pc ≡ option_map (λ (h : Hart). h.pc) found → pc ≡ pc_in_next m e
-pc_asked_is m e u v done hart count found pc i who did places same finds is =
-    let before : done ≡ done_by m.state.harts e.hart = did ∙ ap (done_by u.harts) who ∙ ap (λ (hs : List Hart). done_by hs e.hart) i.harts in
-    let there : found ≡ hart_after (words_of m.code) m.plan.budget (quotas_of m.plan) m.state hart count = finds m (subst (IsUntraced m) (sym same) i) in
-    is
-    ∙ ap (option_map (λ (h : Hart). h.pc))
-    (there
-    ∙ ap (λ (j : ℕ). hart_after (words_of m.code) m.plan.budget (quotas_of m.plan) m.state j count) who
-    ∙ ap (hart_after (words_of m.code) m.plan.budget (quotas_of m.plan) m.state e.hart) (places ∙ ap (λ (d : ℕ). place_of e.access - d) before))
 
 -- of an event of a round that there is, from the machine before it
 next_is : (rounds : ℕ) (m x : Running) (e : Event) → 1 ≤ e.round → e.round ≤ rounds → x ≡ after_rounds (e.round - 1) m → pc_in_next x e ≡ pc_before rounds m e
@@ -88,12 +73,6 @@ pub later_in : (u v : Untraced) (es left : List Event) (k : ℕ) (d : Event) →
 later_in u v es left k d same e lt later =
     let rest : All (IsAfterRounds v.rounds) left = subst (All (IsAfterRounds v.rounds)) (sym e) (All-drop (IsAfterRounds v.rounds) k es later) in
     later_at u v left 0 d same (omega (arith, lt, ap length e, length-drop k es)) rest
-
-pub some_of_round : (es left : List Event) (k n : ℕ) (d : Event) → left ≡ drop k es → k < length es → n ≡ prefix_len (λ e. e.round == (get_or left 0 d).round) left → 1 ≤ n
-some_of_round es left k n d e lt is =
-    let some : 1 ≤ length left = omega (arith, lt, ap length e, length-drop k es) in
-    let its : ((get_or left 0 d).round == (get_or left 0 d).round) ≡ true = grind (arith, nat_tests) in
-    omega (arith, is, counts_first (λ e. e.round == (get_or left 0 d).round) left d some its)
 
 -- ---- of a call that succeeds
 

@@ -17,11 +17,6 @@ use Rattle.run_events.specs.Parts.{pc_in_parts}
 use Rattle.run_events.specs.Pcs.{done_by, pc_in_next}
 use Rattle.run_events.proofs.InParts.{same_quota, some_found}
 
-pub got_mapped : {A B : Type 0} (f : A → B) (xs : List A) (i : ℕ) (d : A) → i < length xs → slice_get (map f xs) i ≡ Some (f (get_or xs i d))
-got_mapped f [] i d lt = absurd (omega (arith, lt))
-got_mapped f (x ∷ xs) zero d lt = refl
-got_mapped f (x ∷ xs) (suc i) d lt = got_mapped f xs i d (omega (arith, lt))
-
 pub turn_pc : (m : Running) (u : Untraced) (e : Event) (lists : List (List Hart)) (h g : Hart) (xs : List Hart) (count begun : ℕ) (pc : Option ℕ) → IsUntraced m u → slice_get u.harts e.hart ≡ Some h → h.done < 2 ^ 64 →
     slice_index (quotas_of m.plan m.state.rounds) e.hart ≤ 1000000 → lists ≡ turns_in_round (words_of m.code) m.plan.budget (quotas_of m.plan) m.state → slice_get lists e.hart ≡ Some xs → slice_get xs 0 ≡ Some g →
     begun ≡ minus g.done h.done → count ≡ place_of e.access - h.done → begun ≤ count → pc ≡ option_map (λ (x : Hart). x.pc) (slice_get xs (count - begun)) → pc ≡ pc_in_next m e

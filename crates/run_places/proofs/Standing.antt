@@ -1,6 +1,6 @@
 -- Spots that stand for others, and places that grow.
 use Rattle.std.proofs.Common.{◌≡◌, ℕ, ◌<◌, ◌≤◌, List, [], ◌∷◌, ◌++◌, length, get_or, Contains, Option, Some, None, refl, sym, ap, ◌∙◌, subst, arith}
-use Rattle.std.proofs.lemmas.List.{append-nil, append_assoc, get_or-map, length-map, map-append}
+use Rattle.std.proofs.lemmas.List.{append_assoc, get_or-map, length-map, map-append}
 use Rattle.std.proofs.lemmas.List.Elements.{Contains-append_left, Contains-get_or, Contains-push}
 use Rattle.round_schedule.specs.declared.span.Span.{Span}
 use Rattle.all_endings.specs.Lowering.{is_held}
@@ -100,13 +100,6 @@ stands_on m p q r a b = record {
   next = a.next ∙ b.next;
   constant = λ e. b.constant (a.constant e);
 }
-
--- what spots cover, those cover that cover each of them
-pub covered_on : (m : List Stored) (ps qs : List Spot) (r : Spot) → ((q : Spot) → Contains ps q → IsCoveredApart m qs q) → IsCoveredApart m ps r → IsCoveredApart m qs r
-covered_on m ps qs r each c = let d = each c.0 c.1 in (d.0, d.1, stands_on m d.0 c.0 r d.2 c.2)
-
-pub grows_self : (ps : List KeptPlace) → Grows ps ps
-grows_self ps = record { more = []; behind = sym (append-nil ps) }
 
 pub grows_by : (ps qs : List KeptPlace) (p : KeptPlace) → qs ≡ ps ++ p ∷ [] → Grows ps qs
 grows_by ps qs p e = record { more = p ∷ []; behind = e }

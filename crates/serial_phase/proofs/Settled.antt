@@ -1,5 +1,5 @@
 -- An instruction of a turn makes one store at most, and one that is not done leaves memory and the console.
-use Rattle.std.proofs.Common.{◌≡◌, ℕ, ◌≤◌, ◌==◌, ◌%◌, List, [], length, Bool, true, false, cond, Option, Some, None, Result, Ok, Err, refl, ap, arith}
+use Rattle.std.proofs.Common.{◌≡◌, ℕ, ◌≤◌, ◌==◌, ◌%◌, List, [], length, Bool, true, false, cond, Option, Some, None, Result, Ok, Err, refl, arith}
 use Rattle.pages.specs.declared.access.Fault.{Fault}
 use Rattle.pages.specs.declared.access.Store.{Store}
 use Rattle.pages.specs.declared.access.Width.{Width}
@@ -27,9 +27,6 @@ Idle (Stopped code) ss c d = (ss ≡ []) × (d ≡ c)
 pub record Settled (c : ConsoleState) (o : SerialOutcome Hart ConsoleState) : Type 0 where
   pub few : length o.stores ≤ 1
   pub idle : Idle o.answer o.stores c o.console
-
-done_none : (c : ConsoleState) (o : SerialOutcome Hart ConsoleState) → o.stores ≡ [] → Idle o.answer o.stores c o.console → Settled c o
-done_none c o e i = record { few = omega (arith, ap length e); idle = i }
 
 by_bool : (c : ConsoleState) (b : Bool) (o p : StepOutcome Hart) → Settled c (with_console c o) → Settled c (with_console c p) → Settled c (with_console c (cond b o p))
 by_bool c true o p x y = x

@@ -12,7 +12,7 @@ use Rattle.past_harts.specs.declared.place.Place.{Place}
 use Rattle.past_harts.specs.Begun.{Begun, begun_of}
 use Rattle.past_harts.specs.declared.point.Side.{Side}
 use Rattle.past_harts.specs.Moments.{phase_number}
-use Rattle.timelines.specs.Shown.{behind_move, beside, beside_part, beside_turn, end_of_part, hart_beside, hart_of, mover, shown_at, shown_at_point}
+use Rattle.timelines.specs.Shown.{behind_move, beside, beside_part, beside_turn, mover, shown_at, shown_at_point}
 use Rattle.past_harts.specs.Points.{is_behind_move}
 use Rattle.past_harts.proofs.Begun.{begun_by, begun_same, got}
 
@@ -35,14 +35,8 @@ shown_in_turn m u hs p i h d s is e lt there ne phase seen =
     let now : s ≡ beside p.phase m p i h = rw phase seen in
     now ∙ sym (another_hart m p i h ne (hart_there m u hs i h d is e lt there))
 
-pub seen_beside : (m : Running) (p : Place) (i : ℕ) (h g : Hart) (s : Sight Hart) → mover m p ≡ Some s → hart_beside m p i h ≡ Some g → Some (record s { hart = g }) ≡ beside_turn m p i h
-seen_beside m p i h g s e f = rw (e, f) refl
-
 pub none_beside : (m : Running) (p : Place) (i : ℕ) (h : Hart) → mover m p ≡ None → None ≡ beside_turn m p i h
 none_beside m p i h e = rw e refl
-
-pub part_hart : (m : Running) (u : Untraced) (code : List Range) (i : ℕ) (h : Hart) (s : Sight Hart) → IsUntraced m u → m.code ≡ code → end_of_part (begun_by u code) i h ≡ Some s → hart_of (end_of_part (begun_of m) i h) ≡ Some s.hart
-part_hart m u code i h s is c e = ap hart_of (ap (λ (b : Begun). end_of_part b i h) (sym (begun_same m u code is c)) ∙ e)
 
 one_round_on : (m : Running) → after_rounds 1 m ≡ after_round m
 unfolding run_of

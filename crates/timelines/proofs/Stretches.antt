@@ -19,9 +19,6 @@ from_start m start u is none same =
     subst (λ (v : Untraced). IsUntraced (after_rounds v.rounds m) v) (sym same)
     (subst (λ (n : ℕ). IsUntraced (after_rounds n m) start) (sym none) (begins_there m start is))
 
-pub from_here : (m : Running) (here u : Untraced) → IsUntraced (after_rounds here.rounds m) here → u ≡ here → IsUntraced (after_rounds u.rounds m) u
-from_here m here u is same = subst (λ (v : Untraced). IsUntraced (after_rounds v.rounds m) v) (sym same) is
-
 pub arrives : (m : Running) (k more n : ℕ) (u v : Untraced) → IsUntraced (after_rounds k m) u → IsAfter more u v → k + more ≡ n → IsUntraced (after_rounds n m) v
 arrives m k more n u v is after e = subst (λ (j : ℕ). IsUntraced (after_rounds j m) v) e (subst (λ (x : Running). IsUntraced x v) (more_rounds k more m) (after (after_rounds k m) is))
 

@@ -13,7 +13,7 @@ use Rattle.plan_hunt.specs.declared.row.Row.{Row}
 use Rattle.plan_hunt.specs.Extents.{IsSought, NoneSought, start_of}
 use Rattle.plan_hunt.specs.declared.extent.Extent.{Extent}
 use Rattle.plan_hunt.specs.declared.extent.Until.{Until}
-use Rattle.plan_hunt.proofs.Extents.{ends_so, going, out_of_time, stands_next}
+use Rattle.plan_hunt.proofs.Extents.{ends_so, going, stands_next}
 use Rattle.weak_hunter.specs.WeakHunts.{IsSomeTable, IsSomeTally}
 
 -- the same endings at the numbers of a table
@@ -132,9 +132,6 @@ next_ending b was x n rows others new e on one few more answer t joins =
   where
     at_end : (ends : ℕ → Ended) (first n : ℕ) (e : Ended) → e ≡ and_then ends (first + n) e (first + n)
     at_end ends first n e = ap (λ (t : Bool). if t then ends (first + n) else e) (sym (beyond (first + n) (first + n) (omega arith)))
-
-pub no_time : (was : Bool) (x : Extent) (n : ℕ) (rows : List Row) → was ≡ false → (x.is_timed ≡ true) × (1 ≤ n) → IsSomeTally x was n rows → IsSomeTally x true n rows
-no_time was x n rows on h t = record { ends = t.ends; tally = out_of_time x t.ends n rows was on h t.tally }
 
 pub ends_here : (b : Bool) (x : Extent) (n : ℕ) (rows : List Row) → (b ≡ false → n ≡ x.most) → IsSomeTally x b n rows → IsSomeTable x n rows
 ends_here b x n rows all t = record { ends = t.ends; table = ends_so b x t.ends n rows all t.tally }
