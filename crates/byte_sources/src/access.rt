@@ -1,7 +1,7 @@
 ghost use Rattle.std.specs.Prelude.{◌≡◌, ◌<◌, ◌^◌};
-ghost use Rattle.round_schedule.specs.Accesses.{address_of, byte_written, bytes_of, number_or_zero, reads, writes, written_of};
+ghost use Rattle.round_schedule.specs.Accesses.{address_of, bytes_of, reads, writes};
 ghost use Rattle.round_schedule.specs.Positions.{event, no_event};
-ghost use Rattle.pages.specs.Memory.{byte_of, in_range};
+ghost use Rattle.pages.specs.Memory.{in_range};
 ghost use Rattle.byte_sources.specs.Touching.{touches};
 
 use pages::Range;
@@ -79,36 +79,4 @@ pub fn no_event() -> Event
         hart: 0,
         phase: Phase::Parallel,
     }
-}
-
-/// The number that an access wrote; 0 where it wrote none.
-fn number_written(access: &Access) -> u64
-    ensures { result ≡ number_or_zero (written_of access.now) }
-{
-    match *access {
-        Access::Store { written, .. } | Access::Atomic { written, .. } => written,
-        Access::StoreConditional { written, .. } => written.unwrap_or(0),
-        _ => 0,
-    }
-}
-
-/// Byte `k` of a number, the least significant first.
-fn byte_of(number: u64, k: u64) -> u8
-    ensures { result ≡ byte_of number k }
-{
-    if k < 8 {
-        ((number >> (8 * k)) % 256) as u8
-    } else {
-        0
-    }
-}
-
-/// The byte that an access writes at an address.
-pub fn byte_written(access: &Access, address: u64) -> u8
-    ensures { result ≡ byte_written access.now address }
-{
-    byte_of(
-        number_written(access),
-        address.saturating_sub(access.address()),
-    )
 }

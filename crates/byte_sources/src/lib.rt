@@ -10,7 +10,7 @@ mod phases;
 mod repeating;
 mod source;
 
-pub use access::{byte_written, event_at, is_in_range, no_event, touches, writes};
+pub use access::{event_at, is_in_range, no_event, touches, writes};
 pub use laws::{arrows_meet_axiom, repeats_read_from_the_same, sources_meet_axiom};
 pub use mark::Mark;
 pub use marks::mark_of;

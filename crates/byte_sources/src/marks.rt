@@ -8,7 +8,7 @@ ghost use Rattle.trace.specs.Traced.{opening_at};
 ghost use Rattle.byte_sources.specs.Sources.{bytes, is_index, source};
 ghost use Rattle.byte_sources.specs.Marks.{is_by_other, is_by_same, is_lost, is_lost_byte, is_read, is_unread, is_unread_byte, leaves, mark_of, overwriter, reads_from};
 
-use crate::access::{byte_written, event_at, reads, writes};
+use crate::access::{event_at, reads, writes};
 use crate::mark::Mark;
 use crate::source::{gives, is_index, sees, source};
 use round_schedule::Access;
@@ -135,7 +135,7 @@ fn source_byte(trace: &Trace, byte: u64, source: Option<usize>) -> u8
 {
     match source {
         None => trace.opening_byte(byte),
-        Some(index) => byte_written(&event_at(trace, index).access, byte),
+        Some(index) => event_at(trace, index).access.byte_written(byte),
     }
 }
 
@@ -144,7 +144,7 @@ fn leaves(trace: &Trace, index: usize, byte: u64) -> bool
     ensures { result ≡ leaves trace.now.events (opening_at trace.now.opening) index byte }
 {
     let before = source_byte(trace, byte, source(trace, index, byte));
-    byte_written(&event_at(trace, index).access, byte) == before
+    event_at(trace, index).access.byte_written(byte) == before
 }
 
 /// Whether each byte of an access at an index is lost.

@@ -6,7 +6,7 @@ ghost use Rattle.round_schedule.specs.Positions.{event};
 ghost use Rattle.trace.specs.Traced.{opening_at};
 ghost use Rattle.execution_views.specs.Moments.{byte_at, bytes_at, is_next_of, may_read, moment_of, next_operation, position_of, source_at};
 
-use byte_sources::{byte_written, no_event, writes};
+use byte_sources::{no_event, writes};
 use memory_order::{Order, is_operation};
 use pages::OutOfMemory;
 use round_schedule::Event;
@@ -129,7 +129,7 @@ fn byte_at(opening: &Trace, events: &[Event], order: &[usize], moment: &Moment, 
         address }
 {
     match source_at(events, order, moment, address) {
-        Some(index) => byte_written(&event_of(events, index).access, address),
+        Some(index) => event_of(events, index).access.byte_written(address),
         None => opening.opening_byte(address),
     }
 }

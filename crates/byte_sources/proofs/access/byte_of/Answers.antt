@@ -1,6 +1,0 @@
-use Rattle.std.proofs.Common.{arith, sym}
-use Rattle.byte_sources.proofs.Valuing.{past_byte}
-use Rattle.byte_sources.proofs.access.byte_of.Goals as goal
-
-pub returns-else-k-lt8 : goal.returns-else-k-lt8
-returns-else-k-lt8 c = sym (past_byte c.args.number c.args.k (omega arith) (omega arith))
