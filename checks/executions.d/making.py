@@ -119,6 +119,27 @@ def turns_of(steps, order):
     return turns
 
 
+# Programs that exit with what they load
+
+
+def reads_number(line):
+    return re.match(r"l[bhwd]u? |lr\.|sc\.|amo", line)
+
+
+def destination_of(line):
+    return int(re.match(r"\S+ x(\d+)", line)[1])
+
+
+def with_exit(program):
+    """A program whose hart exits with all that it loads, 5 bits of each."""
+    lines = ["addi x29,x0,5"]
+    for line in program:
+        lines.append(line)
+        if reads_number(line) and destination_of(line):
+            lines += ["sll x30,x30,x29", f"add x30,x30,x{destination_of(line)}"]
+    return [*lines, "addi x10,x30,0"]
+
+
 # Programs at random
 
 
