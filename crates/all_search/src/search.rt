@@ -176,6 +176,11 @@ impl<'a> Search<'a> {
         self.walk.sharing.touched_by_one(self.alloc)
     }
 
+    /// The addresses of the fences that harts passed, each once.
+    pub fn fences(&self) -> &[u64] {
+        &self.walk.fences
+    }
+
     /// How many doublewords are shared.
     pub fn count_shared(&self) -> u64 {
         self.walk.sharing.count_shared()

@@ -13,7 +13,7 @@ use pages::OutOfMemory;
 use round_schedule::Stepped;
 use run_states::RunState;
 use rv64_decode::Instr;
-use store_lists::LATER;
+use store_lists::{LATER, add_once};
 
 /// Does the next instruction of a run. Answers whether the run is followed further at once.
 pub(crate) fn step(
@@ -39,6 +39,7 @@ pub(crate) fn step(
             after,
             mode,
         } => {
+            add_once(&mut walk.fences, state.hart.pc)?;
             state.bounds.pass_fence(before, after, mode);
             let _access = state.hart.pass_fence(before, after, mode);
             Ok(true)

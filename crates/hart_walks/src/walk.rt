@@ -34,6 +34,8 @@ pub struct Walk {
     pub steps: u64,
     /// How many states were compared.
     pub states: u64,
+    /// The addresses of the fences that harts passed.
+    pub fences: Vec<u64>,
     pub mode: Mode,
     /// The states before accesses of shared bytes, of earlier walks too.
     pub met: Vec<MetState>,
@@ -83,6 +85,7 @@ impl Walk {
             early: KnownEarlyLoads::new(alloc),
             steps: 0,
             states: 0,
+            fences: Vec::new(alloc),
             mode: Mode::All,
             met: Vec::new(alloc),
             latest: HashMap::new(alloc),
