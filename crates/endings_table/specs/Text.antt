@@ -7,6 +7,9 @@ use Rattle.report_lines.specs.Text.{hex, stop_text}
 use Rattle.hunt_table.specs.Text.{mark, quoted, seen_lines}
 use Rattle.hunt_table.specs.declared.seen_range.SeenRange.{SeenRange}
 use Rattle.endings_table.specs.Endings.{is_bad}
+use Rattle.endings_table.specs.declared.fence_need.FenceNeed.{FenceNeed}
+use Rattle.endings_table.specs.declared.fence_need.Need.{Need}
+use Rattle.endings_table.specs.declared.fence_need.Need.TheVariants as needs
 use Rattle.endings_table.specs.declared.found_ending.FoundEnding.{FoundEnding}
 use Rattle.endings_table.specs.declared.hart_end.HartEnd.{HartEnd}
 use Rattle.endings_table.specs.declared.hart_end.HartEnd.TheVariants.{Stopped, Waits}
@@ -79,6 +82,24 @@ abbrev pub others_line : Others → List ℕ
 others_line Absent = codes "no others\n"
 others_line (Possible why) = codes "others are possible: " ++ why_words why ++ codes "\n"
 
+-- what becomes of a guest without a fence
+abbrev pub need_words : Need → List ℕ
+need_words needs.Unneeded = codes "unneeded "
+need_words needs.Needed = codes "needed "
+need_words needs.Waits = codes "unknown "
+need_words (needs.Unknown why) = codes "unknown "
+
+-- why that isn't known
+abbrev pub doubt_words : Need → List ℕ
+doubt_words needs.Unneeded = []
+doubt_words needs.Needed = []
+doubt_words needs.Waits = codes ": a hart may wait for ever"
+doubt_words (needs.Unknown why) = codes ": " ++ why_words why
+
+-- whether a fence is needed
+unfoldable pub need_line : FenceNeed → List ℕ
+need_line f = need_words f.need ++ hex 16 f.pc ++ doubt_words f.need ++ codes "\n"
+
 -- two counts behind their words
 abbrev pub counts : List ℕ → ℕ → List ℕ → ℕ → List ℕ
 counts first m second n = first ++ decimal m ++ second ++ decimal n
@@ -90,4 +111,4 @@ header_text t =
 
 -- the table, as text
 unfoldable pub table_text : EndingsTable → List ℕ
-table_text t = header_text t ++ endings_text t.ranges.items 1 t.endings.items ++ others_line t.others ++ codes "end\n"
+table_text t = header_text t ++ endings_text t.ranges.items 1 t.endings.items ++ others_line t.others ++ flat_map need_line t.fences.items ++ codes "end\n"

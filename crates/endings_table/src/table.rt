@@ -1,3 +1,4 @@
+use crate::fence_need::FenceNeed;
 use crate::found_ending::FoundEnding;
 use crate::others::Others;
 use hunt_table::SeenRange;
@@ -17,4 +18,6 @@ pub struct EndingsTable {
     pub endings: Vec<FoundEnding>,
     /// Whether there are others.
     pub others: Others,
+    /// Which fences it needs, as far as that was looked at.
+    pub fences: Vec<FenceNeed>,
 }

@@ -1,9 +1,11 @@
 mod endings;
 
 ghost use Rattle.std.specs.Prelude.{◌≡◌, ◌++◌, Err, OnOk, length};
+ghost use Rattle.std.specs.List.{flat_map};
 ghost use Rattle.host_io.specs.Taken.{WritesText};
-ghost use Rattle.endings_table.specs.Text.{counts, endings_text, header_text, others_line, table_text, why_words};
+ghost use Rattle.endings_table.specs.Text.{counts, doubt_words, endings_text, header_text, need_line, others_line, table_text, why_words};
 
+use crate::fence_need::{FenceNeed, Need};
 use crate::found_ending::FoundEnding;
 use crate::others::{Others, Why};
 use crate::table::EndingsTable;
@@ -42,6 +44,7 @@ fn add_table(alloc: Global, line: &mut Line, table: &EndingsTable) -> Result<(),
     add_header(line, table)?;
     add_endings(alloc, line, &table.ranges, &table.endings)?;
     add_others(line, table.others)?;
+    add_needs(line, &table.fences)?;
     line.text("end\n")
 }
 
@@ -121,4 +124,43 @@ fn add_why(line: &mut Line, why: Why) -> Result<(), OutOfMemory>
         Why::States => "states of a hart",
         Why::Unchecked => "not checked",
     })
+}
+
+/// Adds whether each fence is needed.
+fn add_needs(line: &mut Line, fences: &[FenceNeed]) -> Result<(), OutOfMemory>
+    ensures { OnOk result (line.new ≡ line.old ++ flat_map need_line fences.now) }
+{
+    for fence in fences {
+        add_need(line, *fence)?;
+    }
+    Ok(())
+}
+
+/// Adds whether a fence is needed.
+#[tactic(auto, unfolding(crate::specs::Text::need_line))]
+fn add_need(line: &mut Line, fence: FenceNeed) -> Result<(), OutOfMemory>
+    ensures { OnOk result (line.new ≡ line.old ++ need_line fence) }
+{
+    line.text(match fence.need {
+        Need::Unneeded => "unneeded ",
+        Need::Needed => "needed ",
+        Need::Waits | Need::Unknown(_) => "unknown ",
+    })?;
+    line.hex(fence.pc, 16)?;
+    add_doubt(line, fence.need)?;
+    line.text("\n")
+}
+
+/// Adds why it isn't known whether a fence is needed.
+fn add_doubt(line: &mut Line, need: Need) -> Result<(), OutOfMemory>
+    ensures { OnOk result (line.new ≡ line.old ++ doubt_words need) }
+{
+    match need {
+        Need::Unneeded | Need::Needed => Ok(()),
+        Need::Waits => line.text(": a hart may wait for ever"),
+        Need::Unknown(why) => {
+            line.text(": ")?;
+            add_why(line, why)
+        }
+    }
 }
