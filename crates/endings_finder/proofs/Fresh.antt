@@ -1,9 +1,9 @@
 -- Harts before their first instructions are fresh.
-use Rattle.std.proofs.Common.{◌≡◌, ℕ, zero, suc, ◌<◌, List, length, get_or, refl, sym, subst, arith}
+use Rattle.std.proofs.Common.{◌≡◌, ℕ, zero, suc, List, refl, sym, subst, arith}
 use Rattle.hart_step.specs.declared.hart.Hart.{Hart}
 use Rattle.all_endings.specs.Factorizing.{IsFresh}
 use Rattle.all_endings.specs.Offering.{AreFresh}
-use Rattle.guest_rounds.specs.Opening.{opening_hart, opening_harts}
+use Rattle.guest_rounds.specs.Opening.{opening_harts}
 
 pub opening_fresh : (entry n i k : ℕ) → AreFresh (opening_harts entry n i k)
 opening_fresh entry n i zero h start l e = absurd (omega (arith, l))

@@ -1,5 +1,8 @@
 mod Confirmed
+mod Fenced
 mod Fresh
+mod Needs
+mod Nop
 mod Opened
 mod Same
 mod Whole

@@ -1,5 +1,5 @@
 -- Endings that are told alike.
-use Rattle.std.proofs.Common.{◌≡◌, ℕ, ◌+◌, ◌<◌, List, [], ◌∷◌, ◌++◌, map, Option, Some, refl, ap, ◌∙◌}
+use Rattle.std.proofs.Common.{◌≡◌, ℕ, List, [], ◌∷◌, map, Option, Some, refl, ap, ◌∙◌}
 use Rattle.hart_step.specs.declared.hart.Stop.{Stop}
 use Rattle.all_endings.specs.Endings.{Ending}
 use Rattle.all_endings.specs.Walking.{HartEnding}

@@ -1,5 +1,5 @@
 -- A table that has all endings, where each of them is among those that are told.
-use Rattle.std.proofs.Common.{◌≡◌, ℕ, List, [], map, Contains, refl, subst}
+use Rattle.std.proofs.Common.{◌≡◌, ℕ, List, map, Contains, refl, subst}
 use Rattle.all_checker.specs.Tables.{IsFoundOf}
 use Rattle.all_checker.specs.declared.finding.Found.TheVariants.{All}
 use Rattle.ending_judge.specs.JudgedEndings.{ending_in, ranges_of}
@@ -33,18 +33,11 @@ all_at k image memory hs starts c see ranges t m s r all =
     (subst (λ (ss : List Hart). AllEndingsWithin k memory ss c see t) s
     (subst (λ (rs : List Range). AllEndingsWithin k memory starts c rs t) r all))
 
-abbrev memory_with : List ℕ → List Range → Memory
-memory_with bytes code = record { bytes = bytes; code = code }
-
-memory_equal : (bs cs : List ℕ) (rs ss : List Range) → bs ≡ cs → rs ≡ ss → memory_with bs rs ≡ memory_with cs ss
-memory_equal bs cs rs ss e f = cc
-
 -- what the checker found of a guest as it is opened, where each of its endings is told
 pub found_whole : (k : ℕ) (image : Loaded) (input : List ℕ) (n : ℕ) (ranges : List SeenRange) (memory : Memory) (starts : List Hart) (see : List Range) (table : Vec TableEnding)
-    (es : List FoundEnding) → memory.bytes ≡ image.bytes → memory.code ≡ image.code → starts ≡ opening_harts image.entry n 0 n → see ≡ ranges_of ranges →
+    (es : List FoundEnding) → memory ≡ memory_of image → starts ≡ opening_harts image.entry n 0 n → see ≡ ranges_of ranges →
     IsFoundOf k memory starts see (All table) → ((e : Ending) → Contains (table_told table.items) e → Contains (map ending_in es) e) →
     HasAll (opening_guest image input n) ranges k es
-found_whole k image input n ranges memory starts see table es bytes code harts seen found more =
+found_whole k image input n ranges memory starts see table es same harts seen found more =
     all_on k (memory_of image) (opening_harts image.entry n 0 n) (opening_console input) (ranges_of ranges) (table_told table.items) (map ending_in es) more
-    (all_at k (memory_of image) memory (opening_harts image.entry n 0 n) starts (opening_console input) (ranges_of ranges) see (table_told table.items)
-    (memory_equal memory.bytes image.bytes memory.code image.code bytes code) harts seen (found (opening_console input) refl))
+    (all_at k (memory_of image) memory (opening_harts image.entry n 0 n) starts (opening_console input) (ranges_of ranges) see (table_told table.items) same harts seen (found (opening_console input) refl))

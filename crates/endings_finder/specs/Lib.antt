@@ -1,2 +1,3 @@
 pub mod AllEndings
 pub mod Checked
+pub mod Fences

@@ -1,5 +1,5 @@
 ghost use Rattle.std.specs.Prelude.{◌≡◌, ◌+◌, ◌++◌, ◌∷◌, [], IfOk, IfSome, OnOk, if◌then◌else◌, length};
-ghost use Rattle.endings_finder.specs.AllEndings.{AreConfirmed, CanEnd, guest_of_script};
+ghost use Rattle.endings_finder.specs.AllEndings.{AreConfirmed, CanEnd, guest_from};
 
 use crate::guest::Guest;
 use crate::judging::judge_of_guest;
@@ -41,9 +41,10 @@ impl Confirmed {
     ///
     /// `OutOfMemory` alone.
     pub(crate) fn add(&mut self, guest: &Guest<'_>, found: &Ending) -> Result<(), OutOfMemory>
-        requires { AreConfirmed (guest_of_script guest.now.scripted) guest.now.ranges.now
-            guest.now.keeps self.old.endings.items self.old.executions.items }
-        ensures { OnOk result (AreConfirmed (guest_of_script guest.now.scripted)
+        requires { AreConfirmed (guest_from guest.now.program.now guest.now.scripted)
+            guest.now.ranges.now guest.now.keeps self.old.endings.items
+            self.old.executions.items }
+        ensures { OnOk result (AreConfirmed (guest_from guest.now.program.now guest.now.scripted)
             guest.now.ranges.now guest.now.keeps self.new.endings.items self.new.executions.items) }
     {
         match allowed_ending(guest, found)? {
@@ -75,8 +76,8 @@ impl Confirmed {
 
 /// An ending that was found, as the judge finds it, if RVWMO allows its execution.
 fn allowed_ending(guest: &Guest<'_>, found: &Ending) -> Result<Option<FoundEnding>, OutOfMemory>
-    ensures { IfOk result (λ o. IfSome o (CanEnd (guest_of_script guest.now.scripted)
-        guest.now.ranges.now)) }
+    ensures { IfOk result (λ o. IfSome o
+        (CanEnd (guest_from guest.now.program.now guest.now.scripted) guest.now.ranges.now)) }
 {
     let ends = ends_of(guest.alloc, found)?;
     let proposed = Proposed {
@@ -84,16 +85,10 @@ fn allowed_ending(guest: &Guest<'_>, found: &Ending) -> Result<Option<FoundEndin
         order: &found.execution.order,
         ends: &ends,
     };
-    match judge_of_guest(guest.alloc, &guest.scripted, guest.ranges, &proposed) {
-        Ok(Some(ending)) => Ok(if is_as_found(&ending, found) {
-            Some(ending)
-        } else {
-            None
-        }),
-        Ok(None) => Ok(None),
-        // The guest was opened before, so nothing but memory is wanting.
-        Err(_) => Err(OutOfMemory),
-    }
+    Ok(match judge_of_guest(guest, &proposed)? {
+        Some(ending) if is_as_found(&ending, found) => Some(ending),
+        _ => None,
+    })
 }
 
 /// Whether a hart is found to wait for ever.

@@ -1,4 +1,4 @@
-ghost use Rattle.std.specs.Prelude.{◌≡◌, ◌⊎◌, ◌≤◌, ℕ, Err, IfErr, IfOk, List, None, Some, false};
+ghost use Rattle.std.specs.Prelude.{◌≡◌, ◌⊎◌, ℕ, [], All, Err, IfErr, IfOk, List, None, Some, false};
 ghost use Rattle.endings_table.specs.declared.others.Others.TheVariants.{Absent};
 ghost use Rattle.host_io.specs.declared.load_error.LoadError.{LoadError as ImageCause};
 ghost use Rattle.host_io.specs.declared.error.RunError.TheVariants as refusals;
@@ -6,24 +6,24 @@ ghost use Rattle.host_io.specs.Writes.{IsFaultOr, WritesAnswer};
 ghost use Rattle.hunter.specs.Hunts.{IsHuntReason, IsImageCause, has_bad_range, hunt_fault};
 ghost use Rattle.hunter.specs.declared.error.HuntError.{HuntError as Refusal};
 ghost use Rattle.hunter.specs.declared.error.HuntError.TheVariants.{Run};
-ghost use Rattle.guest_rounds.specs.Guests.{opening_guest};
-ghost use Rattle.endings_finder.specs.AllEndings.{AreAllowed, AreConfirmed, AreKept, HasAll, IsSearchText, IsSearched, guest_of, guest_of_script};
+ghost use Rattle.endings_finder.specs.AllEndings.{AreAllowed, AreConfirmed, AreKept, AreToldFences, HasAll, IsSearchText, IsSearched, guest_from, guest_of, scripted_image};
+ghost use Rattle.endings_finder.specs.Fences.{IsToldFence};
 
-use crate::confirming::{Confirmed, has_waiting};
-use crate::guest::{Guest, searched_guest, searched_ranges};
+use crate::confirming::Confirmed;
+use crate::fences::needs_of;
+use crate::guest::Guest;
 use crate::others::{Reach, others_than};
-use crate::searching::{EndingsObserver, own_doublewords, search_through};
+use crate::program::Program;
+use crate::proposing::{Proposals, proposals_of};
+use crate::searching::EndingsObserver;
 use crate::settings::EndingsSettings;
-use all_checker::OwnDoubleword;
-use all_search::{Guest as SearchedGuest, Limits, Omission, Search};
-use elf_loader::Image;
-use endings_table::{EndingsTable, Others, Why, write_endings};
+use endings_table::{EndingsTable, FenceNeed, Others, write_endings};
 use execution_makers::ScriptedGuest;
 use execution_scripts::ExecutionFile;
 use host_io::Sink;
 use hunter::{HuntError, check_hunt, check_ranges};
 use machine::load;
-use pages::{OutOfMemory, Range};
+use pages::OutOfMemory;
 use std::alloc::Global;
 
 /// What a search for all endings found.
@@ -43,6 +43,7 @@ struct Findings {
     nodes: u64,
     confirmed: Confirmed,
     others: Others,
+    fences: Vec<FenceNeed>,
 }
 
 /// Searches for all endings of a guest, and writes the table of those that were found, and of whether it has others. Each was put to the
@@ -89,6 +90,8 @@ fn told(findings: Findings, settings: EndingsSettings) -> FoundEndings
         (findings.others ≡ Absent →
         HasAll (guest_of settings.hunt file input) settings.hunt.header.ranges.items settings.steps
         findings.confirmed.endings.items) →
+        (settings.fences ≡ false → findings.fences.items ≡ []) →
+        AreToldFences settings file input findings.fences.items →
         IsSearched settings file input result.table }
     ensures kept { AreKept settings.keeps findings.confirmed.endings.items
         findings.confirmed.executions.items →
@@ -98,6 +101,7 @@ fn told(findings: Findings, settings: EndingsSettings) -> FoundEndings
         nodes,
         confirmed,
         others,
+        fences,
     } = findings;
     let Confirmed {
         endings,
@@ -111,6 +115,7 @@ fn told(findings: Findings, settings: EndingsSettings) -> FoundEndings
             steps: settings.steps,
             endings,
             others,
+            fences,
             ranges: settings.into_ranges(),
         },
         executions,
@@ -118,7 +123,7 @@ fn told(findings: Findings, settings: EndingsSettings) -> FoundEndings
     }
 }
 
-/// What a search finds. The image is loaded once, but for each ending.
+/// What a search finds. The image is loaded once, but for each fence that is looked at.
 fn searched<O: EndingsObserver>(
     alloc: Global,
     image: &[u8],
@@ -132,6 +137,9 @@ fn searched<O: EndingsObserver>(
     ensures all { IfOk result (λ f. f.others ≡ Absent →
         HasAll (guest_of settings.now.hunt image.now input.now)
         settings.now.hunt.header.ranges.items settings.now.steps f.confirmed.endings.items) }
+    ensures unasked { IfOk result (λ f. settings.now.fences ≡ false → f.fences.items ≡ []) }
+    ensures fences { IfOk result (λ f.
+        AreToldFences settings.now image.now input.now f.fences.items) }
     ensures settings { (e : Refusal) → hunt_fault settings.now.hunt ≡ Some e → result ≡ Err e }
     ensures errors { hunt_fault settings.now.hunt ≡ None →
         IfErr result (λ e. IsHuntReason settings.now.hunt image.now e) }
@@ -144,8 +152,10 @@ fn searched<O: EndingsObserver>(
     check_hunt(hunt)?;
     let loaded = load(alloc, hunt.format, image, hunt.pages)?;
     check_ranges(hunt)?;
+    let program = Program::new(alloc, loaded)?;
     let guest = Guest {
         alloc,
+        program: &program,
         scripted: ScriptedGuest {
             format: hunt.format,
             pages: hunt.pages,
@@ -156,106 +166,45 @@ fn searched<O: EndingsObserver>(
         ranges: &hunt.header.ranges,
         keeps: settings.keeps,
     };
-    let findings = findings_of(&guest, &loaded, settings, observer)?;
+    let findings = findings_of(&guest, settings, observer)?;
     Ok(findings)
 }
 
-/// What a search in an image finds.
+/// What a search in a guest finds.
 fn findings_of<O: EndingsObserver>(
     guest: &Guest<'_>,
-    image: &Image,
     settings: &EndingsSettings,
     observer: &mut O,
 ) -> Result<Findings, OutOfMemory>
-    requires { settings.now.hunt.harts ≤ 64 }
-    ensures confirmed { IfOk result (λ f. AreConfirmed (guest_of_script guest.now.scripted)
-        guest.now.ranges.now guest.now.keeps f.confirmed.endings.items
-        f.confirmed.executions.items) }
+    requires { guest.now.program.now ≡ scripted_image guest.now.scripted }
+    ensures confirmed { IfOk result (λ f. AreConfirmed
+        (guest_from guest.now.program.now guest.now.scripted) guest.now.ranges.now
+        guest.now.keeps f.confirmed.endings.items f.confirmed.executions.items) }
     ensures all { IfOk result (λ f. f.others ≡ Absent →
-        HasAll (opening_guest image.now guest.now.scripted.input.now guest.now.scripted.harts)
-        guest.now.ranges.now settings.now.steps f.confirmed.endings.items) }
+        HasAll (guest_from guest.now.program.now guest.now.scripted) guest.now.ranges.now
+        settings.now.steps f.confirmed.endings.items) }
+    ensures unasked { IfOk result (λ f. settings.now.fences ≡ false → f.fences.items ≡ []) }
+    ensures fences { IfOk result (λ f. All (IsToldFence settings.now.steps guest.now.program.now
+        guest.now.scripted.input.now guest.now.scripted.harts guest.now.ranges.now)
+        f.fences.items) }
 {
-    let searched = searched_guest(guest.alloc, image, guest.scripted.input, settings)?;
-    let see = searched_ranges(guest.alloc, guest.ranges)?;
-    let proposals = proposals_of(guest, &searched, &see, settings.nodes, observer)?;
+    let reach = Reach::new(settings);
+    let proposals = proposals_of(guest, reach, observer)?;
     let Proposals {
         nodes,
         confirmed,
         why,
         owned,
+        fences,
     } = proposals;
-    let reach = Reach {
-        steps: settings.steps,
-        nodes: settings.nodes,
-    };
-    let others = others_than(
-        guest,
-        image,
-        reach,
-        &confirmed.endings,
-        why,
-        &owned,
-        observer,
-    )?;
+    let endings = confirmed.endings.as_slice();
+    let others = others_than(guest, reach, endings, why, &owned, observer)?;
+    let asked = settings.fences;
+    let needs = needs_of(guest, reach, endings, others, asked, &fences, observer)?;
     Ok(Findings {
         nodes,
         confirmed,
         others,
+        fences: needs,
     })
-}
-
-/// What a search proposes, as far as the judge of endings allows it.
-#[derive(Drop)]
-struct Proposals {
-    nodes: u64,
-    confirmed: Confirmed,
-    /// Why there may be other endings.
-    why: Option<Why>,
-    /// The doublewords that one hart alone was seen to touch.
-    owned: Vec<OwnDoubleword>,
-}
-
-fn proposals_of<O: EndingsObserver>(
-    guest: &Guest<'_>,
-    searched: &SearchedGuest,
-    see: &[Range],
-    nodes: u32,
-    observer: &mut O,
-) -> Result<Proposals, OutOfMemory>
-    ensures { IfOk result (λ p. AreConfirmed (guest_of_script guest.now.scripted)
-        guest.now.ranges.now guest.now.keeps p.confirmed.endings.items
-        p.confirmed.executions.items) }
-{
-    let limits = Limits {
-        nodes: u64::from(nodes),
-        keeps_nodes: false,
-    };
-    let mut search = Search::new(guest.alloc, searched, see, limits)?;
-    let why = search_through(&mut search, observer)?;
-    let confirmed = confirm_all(guest, &search)?;
-    Ok(Proposals {
-        nodes: search.count_nodes(),
-        why: if confirmed.refused != 0 {
-            why.or(Some(Why::Unchecked))
-        } else {
-            why
-        },
-        owned: own_doublewords(guest.alloc, &search)?,
-        confirmed,
-    })
-}
-
-/// The endings of a search that the judge allows. Where harts ask for the number of the round, one that waits may have its end by that.
-fn confirm_all(guest: &Guest<'_>, search: &Search<'_>) -> Result<Confirmed, OutOfMemory>
-    ensures { IfOk result (λ c. AreConfirmed (guest_of_script guest.now.scripted)
-        guest.now.ranges.now guest.now.keeps c.endings.items c.executions.items) }
-{
-    let asks_round = search.omissions().contains(&Omission::RoundCall);
-    let mut confirmed = Confirmed::none(guest.alloc);
-    for found in search.endings().values() {
-        if !asks_round || !has_waiting(found) {
-            confirmed.add(guest, found)?;
-        }
-    }
-    Ok(confirmed)
 }

@@ -1,14 +1,10 @@
 ghost use Rattle.std.specs.Prelude.{◌≡◌, ◌+◌, ◌≤◌, ◌<◌, ◌^◌, All, IfOk, map};
 ghost use Rattle.ending_judge.specs.JudgedEndings.{ranges_of};
-ghost use Rattle.round_schedule.specs.declared.bounds.TheConstants.{MOST_HARTS};
-ghost use Rattle.pages.specs.declared.pages.TheConstants.{MOST_PAGES};
 
-use crate::settings::EndingsSettings;
+use crate::program::Program;
 use all_search::Guest as SearchedGuest;
 use early_loads::GuestCode;
-use elf_loader::Image;
 use execution_makers::ScriptedGuest;
-use guest_rounds::opening_harts;
 use hunt_table::SeenRange;
 use pages::{OutOfMemory, Range};
 use std::alloc::Global;
@@ -17,7 +13,9 @@ use std::alloc::Global;
 #[derive(Drop)]
 pub(crate) struct Guest<'a> {
     pub alloc: Global,
-    /// What executions are of.
+    /// The program as executions begin with it.
+    pub program: &'a Program,
+    /// Its harts and its input, and what the executions are of that are kept.
     pub scripted: ScriptedGuest<'a>,
     /// The bytes that are looked at.
     pub ranges: &'a [SeenRange],
@@ -28,25 +26,18 @@ pub(crate) struct Guest<'a> {
     ghost few_pages: { scripted.pages ≤ 16384 },
 }
 
-/// The guest as the search has it.
+/// The guest as the search has it, with so many instructions of each hart.
 ///
 /// # Errors
 ///
 /// `OutOfMemory` alone.
-pub(crate) fn searched_guest(
-    alloc: Global,
-    image: &Image,
-    input: &[u8],
-    settings: &EndingsSettings,
-) -> Result<SearchedGuest, OutOfMemory>
-    requires { settings.now.hunt.harts ≤ MOST_HARTS }
-{
-    let code = GuestCode::new(alloc, image.to_pages(alloc)?)?;
+pub(crate) fn searched_guest(guest: &Guest<'_>, steps: u32) -> Result<SearchedGuest, OutOfMemory> {
+    let (alloc, scripted) = (guest.alloc, &guest.scripted);
     Ok(SearchedGuest {
-        code,
-        input: Vec::from_slice(alloc, input)?,
-        harts: opening_harts(alloc, image.entry(), settings.hunt.harts)?,
-        most_steps: u64::from(settings.steps),
+        code: GuestCode::new(alloc, guest.program.memory(alloc)?)?,
+        input: Vec::from_slice(alloc, scripted.input)?,
+        harts: guest.program.harts(alloc, scripted.harts)?,
+        most_steps: u64::from(steps),
     })
 }
 

@@ -1,58 +1,29 @@
-//! The judge of endings over the image of a guest's file.
+//! The judge of endings over a guest's program.
 
-ghost use Rattle.std.specs.Prelude.{◌≡◌, ◌≤◌, ℕ, IfOk, IfSome};
-ghost use Rattle.endings_finder.specs.AllEndings.{CanEnd, guest_of_script};
-ghost use Rattle.guest_rounds.specs.Guests.{opening_guest};
+ghost use Rattle.std.specs.Prelude.{IfOk, IfSome};
+ghost use Rattle.endings_finder.specs.AllEndings.{CanEnd, guest_from};
 
-use elf_loader::Image;
+use crate::guest::Guest;
 use ending_judge::{Proposed, judge_ending};
 use endings_table::FoundEnding;
-use execution_makers::ScriptedGuest;
-use execution_scripts::open_execution;
-use host_io::RunError;
-use hunt_table::SeenRange;
-use machine::load;
-use pages::{MOST_PAGES, OutOfMemory};
-use round_schedule::MOST_HARTS;
-use std::alloc::Global;
-use trace::Trace;
+use pages::OutOfMemory;
 
 /// The ending that an execution of a guest comes to, if RVWMO allows it and its harts end as they are said to.
 ///
 /// # Errors
 ///
-/// The refusals of the image; `OutOfMemory`.
+/// `OutOfMemory` alone.
 pub(crate) fn judge_of_guest(
-    alloc: Global,
-    guest: &ScriptedGuest<'_>,
-    ranges: &[SeenRange],
-    proposed: &Proposed<'_>,
-) -> Result<Option<FoundEnding>, RunError>
-    requires few_harts { guest.now.harts ≤ MOST_HARTS }
-    requires some_pages { 1 ≤ guest.now.pages }
-    requires few_pages { guest.now.pages ≤ MOST_PAGES }
-    ensures { IfOk result (λ found. IfSome found (CanEnd (guest_of_script guest.now) ranges.now)) }
-{
-    let image = load(alloc, guest.format, guest.image, guest.pages)?;
-    let found = judge_over(alloc, image, guest, ranges, proposed)?;
-    Ok(found)
-}
-
-/// The same over the guest's image.
-fn judge_over(
-    alloc: Global,
-    image: Image,
-    guest: &ScriptedGuest<'_>,
-    ranges: &[SeenRange],
+    guest: &Guest<'_>,
     proposed: &Proposed<'_>,
 ) -> Result<Option<FoundEnding>, OutOfMemory>
-    requires { guest.now.harts ≤ MOST_HARTS }
     ensures { IfOk result (λ found. IfSome found
-        (CanEnd (opening_guest image guest.now.input.now guest.now.harts) ranges.now)) }
+        (CanEnd (guest_from guest.now.program.now guest.now.scripted) guest.now.ranges.now)) }
 {
-    let mut execution = open_execution(alloc, &image, guest.input, guest.harts)?;
-    let opening = Trace::new(alloc, image.into_pieces());
-    let found = judge_ending(alloc, &mut execution, &opening, ranges, proposed);
+    let (alloc, scripted) = (guest.alloc, &guest.scripted);
+    let mut execution = guest.program.open(alloc, scripted.input, scripted.harts)?;
+    let opening = guest.program.opening();
+    let found = judge_ending(alloc, &mut execution, opening, guest.ranges, proposed);
     drop(execution);
     found
 }

@@ -3,10 +3,13 @@
 #![tactic(auto)]
 
 mod confirming;
+mod fences;
 mod finding;
 mod guest;
 mod judging;
 mod others;
+mod program;
+mod proposing;
 mod searching;
 mod settings;
 

@@ -1,21 +1,19 @@
-ghost use Rattle.std.specs.Prelude.{◌≡◌, ◌≤◌, Contains, IfOk, IsTrue, map};
+ghost use Rattle.std.specs.Prelude.{◌≡◌, ◌≤◌, ◌↔◌, Contains, IfOk, IsTrue, map};
 ghost use Rattle.all_endings.specs.Endings.{Ending as EndsSo};
 ghost use Rattle.ending_judge.specs.JudgedEndings.{ending_in, stop_of};
-ghost use Rattle.endings_finder.specs.AllEndings.{HasAll};
+ghost use Rattle.endings_finder.specs.AllEndings.{HasAll, guest_from};
 ghost use Rattle.endings_finder.specs.Checked.{output_told, stop_told};
 ghost use Rattle.endings_table.specs.declared.others.Others.TheVariants.{Absent};
-ghost use Rattle.guest_rounds.specs.Guests.{opening_guest};
 ghost use Rattle.hart_ends.specs.Told.{bytes_told, ending_told, table_told};
 
 use crate::guest::{Guest, searched_ranges};
 use crate::searching::EndingsObserver;
+use crate::settings::EndingsSettings;
 use all_checker::{
     Bounds, Found, HartEnd as CheckedEnd, ListsObserver, OwnDoubleword, Reason, TableEnding,
     find_all,
 };
-use elf_loader::Image;
 use endings_table::{FoundEnding, HartEnd, Others, Why};
-use guest_rounds::opening_harts;
 use pages::OutOfMemory;
 
 /// How many places of harts' runs the checker looks at for each list of stores that it may look through.
@@ -28,6 +26,18 @@ pub(crate) struct Reach {
     pub(crate) steps: u32,
     /// So many lists of stores.
     pub(crate) nodes: u32,
+}
+
+impl Reach {
+    /// As far as the search.
+    pub(crate) fn new(settings: &EndingsSettings) -> Reach
+        ensures { result.steps ≡ settings.now.steps }
+    {
+        Reach {
+            steps: settings.steps,
+            nodes: settings.nodes,
+        }
+    }
 }
 
 /// Who looks on while the endings that were found are checked.
@@ -53,7 +63,6 @@ impl<O: EndingsObserver> ListsObserver for Looking<'_, O> {
 /// `OutOfMemory` alone.
 pub(crate) fn others_than<O: EndingsObserver>(
     guest: &Guest<'_>,
-    image: &Image,
     reach: Reach,
     endings: &[FoundEnding],
     why: Option<Why>,
@@ -63,14 +72,14 @@ pub(crate) fn others_than<O: EndingsObserver>(
     requires few { guest.now.scripted.harts ≤ 64 }
     // There are none only where the endings are all.
     ensures { IfOk result (λ o. o ≡ Absent →
-        HasAll (opening_guest image.now guest.now.scripted.input.now guest.now.scripted.harts)
-        guest.now.ranges.now reach.steps endings.now) }
+        HasAll (guest_from guest.now.program.now guest.now.scripted) guest.now.ranges.now
+        reach.steps endings.now) }
 {
     if let Some(why) = why {
         return Ok(Others::Possible(why));
     }
-    let pages = image.to_pages(guest.alloc)?;
-    let harts = opening_harts(guest.alloc, image.entry(), guest.scripted.harts)?;
+    let memory = guest.program.memory(guest.alloc)?;
+    let harts = guest.program.harts(guest.alloc, guest.scripted.harts)?;
     let see = searched_ranges(guest.alloc, guest.ranges)?;
     let bounds = Bounds {
         steps: u64::from(reach.steps),
@@ -83,7 +92,7 @@ pub(crate) fn others_than<O: EndingsObserver>(
     };
     match find_all(
         guest.alloc,
-        &pages,
+        &memory,
         &harts,
         &see,
         owned,
@@ -191,8 +200,9 @@ fn look_alike(seen: &[Vec<u8>], others: &[Vec<u8>]) -> bool
     true
 }
 
-fn same_bytes(a: &[u8], b: &[u8]) -> bool
-    ensures { IsTrue result → a.now ≡ b.now }
+/// Whether bytes are the same.
+pub(crate) fn same_bytes(a: &[u8], b: &[u8]) -> bool
+    ensures { IsTrue result ↔ (a.now ≡ b.now) }
 {
     a == b
 }

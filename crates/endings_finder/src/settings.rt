@@ -14,6 +14,8 @@ pub struct EndingsSettings {
     pub nodes: u32,
     /// Whether the execution of each ending is kept.
     pub keeps: bool,
+    /// Whether it is asked which fences the guest needs, where it has no other endings.
+    pub fences: bool,
 }
 
 impl EndingsSettings {

@@ -17,13 +17,13 @@ returns-in_err-write_endings-clause-writes g c =
     let p = err_from_is_err_and c.from_residual-in_err-write_endings.result c.from_residual-in_err-write_endings.ensures.1 in
     let w = c.in_err-write_endings.ensures.writes in
     let h = c.in_ok-findings.ensures.confirmed in
-    let table = c.told-found.ensures.table c.args.image.now c.args.input.now h.allowed c.in_ok-findings.ensures.all in
+    let table = c.told-found.ensures.table c.args.image.now c.args.input.now h.allowed c.in_ok-findings.ensures.all c.in_ok-findings.ensures.unasked c.in_ok-findings.ensures.fences in
     let kept = c.told-found.ensures.kept h.kept in
     rw (p.1, p.2) (cut_off _ c.told-found.result _ (by_writing_as Run _ _ _ _ _ _ w) (record { table = table; kept = kept; is_text = refl }) w.begun)
 
 pub returns-clause-writes : goal.returns-clause-writes
 returns-clause-writes g c =
     let h = c.in_ok-findings.ensures.confirmed in
-    let table = c.told-found.ensures.table c.args.image.now c.args.input.now h.allowed c.in_ok-findings.ensures.all in
+    let table = c.told-found.ensures.table c.args.image.now c.args.input.now h.allowed c.in_ok-findings.ensures.all c.in_ok-findings.ensures.unasked c.in_ok-findings.ensures.fences in
     let kept = c.told-found.ensures.kept h.kept in
     answered _ _ (record { table = table; kept = kept; is_text = refl }) c.in_ok-write_endings.ensures.writes.ok

@@ -1,6 +1,0 @@
-use Rattle.endings_finder.specs.AllEndings.{AreConfirmed, guest_of_script}
-use Rattle.endings_finder.proofs.finding.confirm_all.Given as goal
-
--- what is confirmed so far
-abbrev pub invariant-loop-found : goal.invariant-loop-found
-invariant-loop-found l = AreConfirmed (guest_of_script l.guest.scripted) l.guest.ranges.now l.guest.keeps l.confirmed.endings.items l.confirmed.executions.items
