@@ -6,6 +6,7 @@ Only where the table says 'no others' are its endings all.
 
 Examples:
   dethart all guest.elf --harts 2
+  dethart all guest.elf --harts 2 --fences
   dethart all guest.elf --harts 2 --see-object counter --keep found
   dethart all guest.elf --harts 2 --nodes 1000000 --seconds 600 --progress
 
@@ -21,6 +22,7 @@ all that each hart can do. What is printed is
   see ADDRESS LENGTH BYTES NAME
   output H LENGTH \"BYTES\"
   no others, or others are possible: WHY
+  unneeded PC, needed PC, or unknown PC: WHY
   end
 
 'nodes' counts the lists that were gone through, and K is --steps. The lines
@@ -43,6 +45,13 @@ and none does more than K instructions, ends otherwise. Else WHY is one of
   not checked    the search found no others, and nothing has proved it
 Fewer rounds of a loop, smaller arrays and fewer harts make a program small
 enough, and --see less.
+
+--fences says of each fence that a hart comes to, where there are no others,
+what becomes of the program if that instruction, at PC, does nothing:
+  unneeded  it has no ending that it hasn't with the fence, as 'no others' counts
+  needed    it has one, in which all harts stop
+  unknown   WHY is one of the above, or: a hart may wait for ever
+Each is looked at alone: of two that are unneeded leave out one, and ask anew.
 
 --keep DIR writes an execution of ending K to DIR/K.execution, for dethart check,
 replay, watch, draw and gdb.

@@ -251,6 +251,7 @@ const ALL: &[Row<'static>] = &[
     row! { "nodes" NUMBER "N" = "100000": "Nodes of the search, at most" },
     row! { "seconds" NUMBER "N": "Search no longer than so many seconds" },
     row! { "keep" OPTION "DIR": "Write an execution of each ending to a file in DIR" },
+    row! { "fences" FLAG: "Say of each fence whether it can be left out" },
 ];
 
 const COMPARE: &[Row<'static>] = &[
