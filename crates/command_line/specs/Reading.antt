@@ -280,6 +280,7 @@ pub record HoldsAll (rows : List Row) (all : AllEndings) : Type 0 where
   pub nodes : all.nodes ≡ number_of 32 (codes "nodes") rows
   pub seconds : all.seconds ≡ number_at 32 (codes "seconds") rows
   pub keep : option_map (λ s. s.now) all.keep ≡ first_of (codes "keep") rows
+  pub fences : all.fences ≡ is_set (codes "fences") rows
 
 pub record HoldsShrink (rows : List Row) (shrink : Shrink) : Type 0 where
   pub search : HoldsSearch rows shrink.search

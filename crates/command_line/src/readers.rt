@@ -277,6 +277,7 @@ pub(crate) fn all_of<'a>(
         nodes: number_of(matches, "nodes"),
         seconds: number_given(matches, "seconds"),
         keep: text_given(matches, "keep"),
+        fences: is_set(matches, "fences"),
     })
 }
 

@@ -342,6 +342,8 @@ pub struct AllEndings<'a> {
     pub seconds: Option<u32>,
     /// The path of the folder that an execution of each ending is written to; none is written where there is none.
     pub keep: Option<&'a str>,
+    /// Whether it is asked which fences can be left out.
+    pub fences: bool,
 }
 
 /// The words after `shrink`.
