@@ -156,6 +156,7 @@ complete -c dethart -n '__fish_seen_subcommand_from all' -l steps -x -d 'Instruc
 complete -c dethart -n '__fish_seen_subcommand_from all' -l nodes -x -d 'Nodes of the search, at most'
 complete -c dethart -n '__fish_seen_subcommand_from all' -l seconds -x -d 'Search no longer than so many seconds'
 complete -c dethart -n '__fish_seen_subcommand_from all' -l keep -r -F -d 'Write an execution of each ending to a file in DIR'
+complete -c dethart -n '__fish_seen_subcommand_from all' -l fences -d 'Say of each fence whether it can be left out'
 complete -c dethart -n '__fish_seen_subcommand_from all' -l help -d 'Print help'
 complete -c dethart -n '__fish_seen_subcommand_from compare' -l help -d 'Print help'
 complete -c dethart -n '__fish_seen_subcommand_from plan' -l harts -x -d 'Harts: 1 to 64'

@@ -23,13 +23,14 @@ use Rattle.program_files.specs.declared.failure.CommandFailure.{CommandFailure}
 abbrev pub keep_of : AllEndings → Option (List ℕ)
 keep_of asked = option_map (λ s. s.now) asked.keep
 
--- the settings have what the line says: of the guest, how far the search goes, and whether executions are kept
+-- the settings have what the line says: of the guest, how far the search goes, whether executions are kept, and whether fences are asked for
 pub record IsAskedSearch (asked : AllEndings) (image : List ℕ) (s : EndingsSettings) : Type 0 where
   pub numbers : HasNumbers asked.search 0 1 false s.hunt
   pub ranges : HasRanges asked.search image s.hunt
   pub steps : s.steps ≡ asked.steps
   pub nodes : s.nodes ≡ asked.nodes
   pub keeps : s.keeps ≡ is_some asked.keep
+  pub fences : s.fences ≡ asked.fences
 
 -- a search by what the line says: its settings, its table and the executions that it keeps
 pub record SetSearch (finds : EndingsSettings → List ℕ → List ℕ → EndingsTable → List ExecutionFile → Type 0)

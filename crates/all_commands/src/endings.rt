@@ -101,6 +101,7 @@ fn search_given<O: Output, W: EndingsSearches, P: EndingsObserver + ProgressLine
         steps: asked.steps,
         nodes: asked.nodes,
         keeps: asked.keep.is_some(),
+        fences: asked.fences,
     };
     match fault {
         Some(fault) => {

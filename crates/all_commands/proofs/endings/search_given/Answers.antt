@@ -34,7 +34,7 @@ returns-clause-begun g c =
     let ranges = rw c.deref.ensures.value at c.in_ok-hunt.ensures.ranges in
     ⊎_elim (λ same. inl same) (λ t. inr (
       record {
-        settings = record { hunt = s; steps = asked.steps; nodes = asked.nodes; keeps = c.is_some.result };
+        settings = record { hunt = s; steps = asked.steps; nodes = asked.nodes; keeps = c.is_some.result; fences = asked.fences };
         table = t.0;
         executions = t.1;
         set = record {
@@ -43,6 +43,7 @@ returns-clause-begun g c =
           steps = refl;
           nodes = refl;
           keeps = c.is_some.ensures;
+          fences = refl;
         };
         searched = rw (c.as_slice-image.ensures.value, c.as_slice-input.ensures.value) at t.2;
         kept = t.3;
@@ -86,7 +87,7 @@ returns-in-Ok-clause-searches g c =
     let h = c.in-Ok.ensures.finds in
     let f = c.in-Ok.found in (
       record {
-        settings = record { hunt = s; steps = asked.steps; nodes = asked.nodes; keeps = c.is_some.result };
+        settings = record { hunt = s; steps = asked.steps; nodes = asked.nodes; keeps = c.is_some.result; fences = asked.fences };
         table = f.table;
         executions = f.executions.items;
         set = record {
@@ -95,6 +96,7 @@ returns-in-Ok-clause-searches g c =
           steps = refl;
           nodes = refl;
           keeps = c.is_some.ensures;
+          fences = refl;
         };
         searched = rw (c.as_slice-image.ensures.value, c.as_slice-input.ensures.value) at h.0;
         kept = h.1;
