@@ -1,6 +1,5 @@
--- The search for all endings that a line asks for, and why it isn't done. `holds` and `begins` say what files hold, `lacks` and
--- `wasnt_given` that one couldn't be read or written, `failed` that the output failed, and `finds` that a search by some settings finds a
--- table, with these executions.
+-- The search for all endings that a line asks for, and why it isn't done. `wasnt_given` says that a file couldn't be written, `failed`
+-- that the output failed, and `finds` that a search by some settings finds a table, with these executions.
 use Rattle.std.specs.Prelude.{◌≡◌, ◌⊎◌, ℕ, List, false, Option, is_some, option_map}
 use Rattle.command_line.specs.declared.settings.AllEndings.{AllEndings}
 use Rattle.endings_finder.specs.AllEndings.{AreKept, IsSearched}
@@ -12,7 +11,7 @@ use Rattle.program_files.specs.Failures.{IsCutEnd}
 use Rattle.hunt_commands.specs.Settings.{HasNumbers, HasRanges}
 use Rattle.hunter.specs.Hunts.{hunt_fault}
 use Rattle.program_files.specs.Asked.{IsFileOfProgram, IsProgramOf, LacksSpurious}
-use Rattle.program_files.specs.declared.files.FileFault.{FileFault}
+use Rattle.program_files.specs.Relations.{FileRelations}
 use Rattle.weak_commands.specs.Asked.{IsWorldEnd}
 use Rattle.weak_commands.specs.Saved.{IsUnsavedIn}
 use Rattle.program_files.specs.declared.failure.CommandFailure.{CommandFailure}
@@ -44,11 +43,11 @@ pub record SetSearch (finds : EndingsSettings → List ℕ → List ℕ → Endi
   pub found : finds settings image input table executions
 
 -- the search that a line asks for
-pub record AskedSearch (holds : List ℕ → List ℕ → Type 0) (begins : List ℕ → ℕ → List ℕ → Type 0)
+pub record AskedSearch (files : FileRelations)
     (finds : EndingsSettings → List ℕ → List ℕ → EndingsTable → List ExecutionFile → Type 0) (asked : AllEndings) : Type 0 where
   pub image : List ℕ
   pub input : List ℕ
-  pub given : IsProgramOf holds begins asked.search.program image input
+  pub given : IsProgramOf files asked.search.program image input
   pub made : SetSearch finds asked image input
 
 -- ---- refusals
@@ -58,14 +57,14 @@ abbrev pub IsSearchEnd : AllEndings → List ℕ → Type 0 → CommandFailure �
 IsSearchEnd asked image failed f = IsCutEnd failed f ⊎ RefusedSearch asked.search 0 1 false hunt_fault image failed f
 
 -- the search that a line asks for ends so
-pub record EndsSearch (holds : List ℕ → List ℕ → Type 0) (begins : List ℕ → ℕ → List ℕ → Type 0) (asked : AllEndings) (failed : Type 0) (f : CommandFailure) : Type 0 where
+pub record EndsSearch (files : FileRelations) (asked : AllEndings) (failed : Type 0) (f : CommandFailure) : Type 0 where
   pub image : List ℕ
   pub input : List ℕ
-  pub given : IsProgramOf holds begins asked.search.program image input
+  pub given : IsProgramOf files asked.search.program image input
   pub ends : IsSearchEnd asked image failed f
 
 -- why the command ends without what it was asked for
-abbrev pub EndsAll : (List ℕ → List ℕ → Type 0) → (List ℕ → ℕ → List ℕ → Type 0) → (List ℕ → FileFault → Type 0) → (List ℕ → Type 0) → AllEndings → Type 0 → CommandFailure → Type 0
-EndsAll holds begins lacks wasnt_given asked failed f =
-    IsWorldEnd lacks (IsFileOfProgram asked.search.program) (LacksSpurious holds begins asked.search.program) failed f
-    ⊎ EndsSearch holds begins asked failed f ⊎ IsUnsavedIn wasnt_given (keep_of asked) f
+abbrev pub EndsAll : FileRelations → (List ℕ → Type 0) → AllEndings → Type 0 → CommandFailure → Type 0
+EndsAll files wasnt_given asked failed f =
+    IsWorldEnd files (IsFileOfProgram asked.search.program) (LacksSpurious files asked.search.program) failed f
+    ⊎ EndsSearch files asked failed f ⊎ IsUnsavedIn wasnt_given (keep_of asked) f

@@ -14,8 +14,7 @@ use command_line::AllEndings;
 use endings_finder::{EndingsObserver, EndingsSettings, FoundEndings};
 use hunt_commands::{named_in, refused_for, settings_of, tell_decimals};
 use program_files::{
-    CommandFailure, ExitStatus, Files, Messages, NamedBytes, Output, ProgramFiles, ProgressLine,
-    read_program,
+    CommandFailure, ExitStatus, NamedBytes, Output, ProgramFiles, ProgressLine, World, read_program,
 };
 use std::alloc::Global;
 use weak_commands::keep;
@@ -27,67 +26,61 @@ use weak_commands::keep;
 ///
 /// `File` where one can't be read, and `NoSpurious`; `Hunt` for the settings and for the image, and `Naming` for bytes that can't be looked at;
 /// then `Unwritten`, and `SinkFailed`; the refusal of memory at any time.
-pub fn all_command<
-    F: Files,
-    O: Output,
-    M: Messages,
-    W: EndingsSearches,
-    P: EndingsObserver + ProgressLine,
->(
+#[inline(never)]
+pub fn all_command<W: World, S: EndingsSearches, O: Output>(
     alloc: Global,
-    files: &mut F,
-    searcher: &W,
+    world: &mut W,
+    searcher: &S,
     asked: &AllEndings<'_>,
-    progress: &mut P,
     out: &mut O,
-    messages: &M,
 ) -> Result<ExitStatus, CommandFailure>
     // All that was printed is the table of the search that the line asks for, of which the status is, and the executions that it keeps were
     // written to the files of the folder that the line names.
     ensures searches { IfOk result (λ status.
-        (a : AskedSearch (F.holds files.old) (F.begins files.old) W.finds asked.now) ×
+        (a : AskedSearch (W.files world.old) S.finds asked.now) ×
         (O.took out.new ≡ O.took out.old ++ table_text a.made.table) × O.is_out out.new ×
         (status ≡ all_status a.made.table) ×
-        AreSaved F.was_given (keep_of asked.now) (map as_recorded a.made.executions)
-        files.old files.new) }
+        AreSaved W.was_given (keep_of asked.now) (map as_recorded a.made.executions)
+        world.old world.new) }
     // Else nothing was printed, or a beginning of such a table.
     ensures begun { OnErr result ((O.took out.new ≡ O.took out.old) ⊎
-        ((a : AskedSearch (F.holds files.old) (F.begins files.old) W.finds asked.now) ×
+        ((a : AskedSearch (W.files world.old) S.finds asked.now) ×
         BeganText (O.took out.old) (O.took out.new) (table_text a.made.table))) }
     // After a refusal for another cause than memory, the output and the files of the folder nothing was printed.
     ensures unprinted { IfErr result (λ f.
         IsUnprinted (failure_number f) (O.took out.old) (O.took out.new)) }
     // Where the line names no folder, no file was written.
-    ensures unasked { asked.now.keep ≡ None → files.new ≡ files.old }
-    ensures errors { IfErr result (EndsAll (F.holds files.old) (F.begins files.old)
-        (F.lacks files.old)
-        (F.wasnt_given files.new) asked.now (HasFailed O.failures O.is_stuck out.old out.new)) }
+    ensures unasked { asked.now.keep ≡ None → world.new ≡ world.old }
+    ensures errors { IfErr result (EndsAll (W.files world.old)
+        (W.wasnt_given world.new) asked.now (HasFailed O.failures O.is_stuck out.old out.new)) }
 {
-    let given = read_program(files, alloc, &asked.search.program)?;
-    let found = search_given(alloc, searcher, &given, asked, progress, out)?;
-    keep(files, alloc, asked.keep, &found.executions)?;
+    let program = &asked.search.program;
+    let mut progress = world.progress(program.progress, asked.nodes, 1, asked.seconds);
+    let given = read_program(world, alloc, program)?;
+    let found = search_given(alloc, searcher, &given, asked, &mut progress, out)?;
+    keep(world, alloc, asked.keep, &found.executions)?;
     out.hand_on()?;
     // What was asked for is out.
-    tell_found(asked, &found, messages);
-    tell_decimals(&asked.search, &given, messages);
+    tell_found(asked, &found, world);
+    tell_decimals(&asked.search, &given, world);
     Ok(all_status(&found.table))
 }
 
 /// Searches in what the files gave, and prints the table.
-fn search_given<O: Output, W: EndingsSearches, P: EndingsObserver + ProgressLine>(
+fn search_given<S: EndingsSearches, P: ProgressLine, O: Output>(
     alloc: Global,
-    searcher: &W,
+    searcher: &S,
     files: &ProgramFiles,
     asked: &AllEndings<'_>,
     progress: &mut P,
     out: &mut O,
 ) -> Result<FoundEndings, CommandFailure>
     ensures searches { IfOk result (λ f.
-        (s : SetSearch W.finds asked.now files.now.image.items files.now.input.items) ×
+        (s : SetSearch S.finds asked.now files.now.image.items files.now.input.items) ×
         (O.took out.new ≡ O.took out.old ++ table_text s.table) ×
         (f.table ≡ s.table) × (f.executions.items ≡ s.executions)) }
     ensures begun { OnErr result ((O.took out.new ≡ O.took out.old) ⊎
-        ((s : SetSearch W.finds asked.now files.now.image.items files.now.input.items) ×
+        ((s : SetSearch S.finds asked.now files.now.image.items files.now.input.items) ×
         BeganText (O.took out.old) (O.took out.new) (table_text s.table))) }
     ensures unprinted { IfErr result (λ f.
         IsUnprinted (failure_number f) (O.took out.old) (O.took out.new)) }
@@ -110,12 +103,25 @@ fn search_given<O: Output, W: EndingsSearches, P: EndingsObserver + ProgressLine
         }
         None => {
             let (image, input) = (files.image.as_slice(), files.input.as_slice());
-            let answer = searcher.search(alloc, image, input, settings, progress, out);
-            progress.end();
+            let mut looking = LookingOn { progress };
+            let answer = searcher.search(alloc, image, input, settings, &mut looking, out);
+            looking.progress.end();
             match answer {
                 Ok(found) => Ok(found),
                 Err(error) => Err(CommandFailure::from(error)),
             }
         }
+    }
+}
+
+/// Has who tells how far the command is look on at a search.
+#[derive(Drop)]
+struct LookingOn<'a, P> {
+    progress: &'a mut P,
+}
+
+impl<P: ProgressLine> EndingsObserver for LookingOn<'_, P> {
+    fn look(&mut self, nodes: u64, stores: u64, endings: u64) -> bool {
+        self.progress.look(nodes, stores, endings)
     }
 }

@@ -2,17 +2,17 @@
 
 use command_line::AllEndings;
 use endings_finder::FoundEndings;
-use program_files::Messages;
+use program_files::World;
 
 /// Says on standard error how many endings the judge refused, if there are some, and how executions of the bad ones come to be written.
-pub(crate) fn tell_found<M: Messages>(asked: &AllEndings<'_>, found: &FoundEndings, messages: &M) {
+pub(crate) fn tell_found<W: World>(asked: &AllEndings<'_>, found: &FoundEndings, world: &W) {
     let refused = found.refused;
     if refused != 0 {
-        messages.tell(format_args!(
+        world.tell(format_args!(
             "the checker refuses {refused} endings that were found: this is a fault of dethart, and this line, with the command, is a bug report"
         ));
     }
     if asked.keep.is_none() && found.table.endings.iter().any(|ending| ending.is_bad()) {
-        messages.tell(format_args!("--keep FOLDER writes an execution of each ending"));
+        world.tell(format_args!("--keep FOLDER writes an execution of each ending"));
     }
 }

@@ -9,6 +9,7 @@ use Rattle.past_commands.proofs.Printing.{began_first, began_second}
 use Rattle.past_commands.specs.declared.past.Past.{Past}
 use Rattle.past_commands.specs.declared.past.Past.TheVariants as pasts
 use Rattle.program_files.proofs.Begun.{whole}
+use Rattle.program_files.specs.Relations.{FileRelations}
 
 -- ---- a refusal
 
@@ -33,5 +34,5 @@ good_of (pasts.Execution text) (debuggees.Run d) h = absurd h.2
 good_of (pasts.Execution text) (debuggees.Execution p) h = tt
 good_of (pasts.Execution text) (debuggees.Refused c) h = h.2.against
 
-pub is_good : (either : List ℕ → List ℕ → List ℕ → List ℕ → Type 0) (path : List ℕ) (d : Debuggee) → IsDebuggee either path d → IsGood d
-is_good either path d h = good_of h.past d h.is
+pub is_good : (files : FileRelations) (path : List ℕ) (d : Debuggee) → IsDebuggee files path d → IsGood d
+is_good files path d h = good_of h.past d h.is

@@ -1,5 +1,4 @@
--- What a debugger is served, what standard error takes, and with which status that ends. `either` says what files hold that are recordings or
--- executions, and `lacks` that one couldn't be read for a fault.
+-- What a debugger is served, what standard error takes, and with which status that ends.
 use Rattle.std.specs.Prelude.{◌≡◌, ℕ, List, ◌++◌, codes, None}
 use Rattle.std.specs.Fmt.{decimal}
 use Rattle.debug_commands.specs.Debuggees.{IsDebuggee, IsUnopened}
@@ -20,7 +19,7 @@ use Rattle.program_files.specs.Failures.{failure_number}
 use Rattle.program_files.specs.declared.failure.CommandFailure.{CommandFailure}
 use Rattle.program_files.specs.declared.exit_status.ExitStatus.{ExitStatus}
 use Rattle.program_files.specs.declared.exit_status.ExitStatus.TheVariants as statuses
-use Rattle.program_files.specs.declared.files.FileFault.{FileFault}
+use Rattle.program_files.specs.Relations.{FileRelations}
 
 -- what a debugger said, what it was answered, and what standard error took, each before and after
 pub record Dialogue : Type 0 where
@@ -68,6 +67,6 @@ pub record IsToldWhy (f : CommandFailure) (status : ExitStatus) (w : Dialogue) :
   pub answered : IsRefusedEach (failure_number f) w
 
 -- it was served what the file of the path holds, or told why there is nothing to look at
-pub data IsDebugged (either : List ℕ → List ℕ → List ℕ → List ℕ → Type 0) (lacks : List ℕ → FileFault → Type 0) (path : List ℕ) (status : ExitStatus) (w : Dialogue) : Type 0 where
-  Looks : (d : Debuggee) → IsDebuggee either path d → IsServedBy d status w → IsDebugged either lacks path status w
-  Is_refused : (f : CommandFailure) → IsUnopened either lacks path f → IsToldWhy f status w → IsDebugged either lacks path status w
+pub data IsDebugged (files : FileRelations) (path : List ℕ) (status : ExitStatus) (w : Dialogue) : Type 0 where
+  Looks : (d : Debuggee) → IsDebuggee files path d → IsServedBy d status w → IsDebugged files path status w
+  Is_refused : (f : CommandFailure) → IsUnopened files path f → IsToldWhy f status w → IsDebugged files path status w

@@ -1,5 +1,4 @@
--- What a debugger looks at, and why there is nothing to look at. `either` says what files hold that are recordings or executions, and
--- `lacks` that one couldn't be read for a fault.
+-- What a debugger looks at, and why there is nothing to look at.
 use Rattle.std.specs.Prelude.{◌≡◌, ◌≢◌, ◌⊎◌, ◌+◌, ◌^◌, ◌≤◌, ℕ, List}
 use Rattle.debug_commands.specs.declared.debuggee.Debuggee.{Debuggee}
 use Rattle.debug_commands.specs.declared.debuggee.Debuggee.TheVariants as debuggees
@@ -22,7 +21,7 @@ use Rattle.program_files.specs.declared.failure.CommandFailure.{CommandFailure}
 use Rattle.program_files.specs.declared.failure.CommandFailure.TheVariants as failures
 use Rattle.past_commands.specs.declared.past.Past.{Past}
 use Rattle.past_commands.specs.declared.past.Past.TheVariants as pasts
-use Rattle.program_files.specs.declared.files.FileFault.{FileFault}
+use Rattle.program_files.specs.Relations.{FileRelations}
 use Rattle.recording.specs.Recorded.{Recorded}
 use Rattle.replayer.specs.Refusals.{HasImage, HasImageCause, HasPlanCause, HasReason}
 use Rattle.replayer.specs.Replayed.{IsPlanFor, format_of, start_of}
@@ -91,11 +90,11 @@ IsRefusedPast (pasts.Recording r) f = IsRefusedRun r f
 IsRefusedPast (pasts.Execution text) f = IsRefusedText text.items f
 
 -- this is what a debugger looks at that is given the file of the path
-pub record IsDebuggee (either : List ℕ → List ℕ → List ℕ → List ℕ → Type 0) (path : List ℕ) (d : Debuggee) : Type 0 where
+pub record IsDebuggee (files : FileRelations) (path : List ℕ) (d : Debuggee) : Type 0 where
   pub past : Past
-  pub holds : HoldsPast either path past
+  pub holds : HoldsPast files path past
   pub is : IsDebuggeeOf past d
 
 -- why there is nothing to look at: the file can't be read, it holds neither a recording nor an execution, or what it holds is refused
-abbrev pub IsUnopened : (List ℕ → List ℕ → List ℕ → List ℕ → Type 0) → (List ℕ → FileFault → Type 0) → List ℕ → CommandFailure → Type 0
-IsUnopened either lacks path f = EndsReading either lacks path f ⊎ ((past : Past) × HoldsPast either path past × IsRefusedPast past f)
+abbrev pub IsUnopened : FileRelations → List ℕ → CommandFailure → Type 0
+IsUnopened files path f = EndsReading files path f ⊎ ((past : Past) × HoldsPast files path past × IsRefusedPast past f)

@@ -7,8 +7,8 @@ use execution_scripts::Checked;
 use execution_session::Opened;
 use gdb_runs::Debugged;
 use host_io::RunError;
-use past_commands::{Past, PastFiles, read_past};
-use program_files::CommandFailure;
+use past_commands::{Past, read_past};
+use program_files::{CommandFailure, World};
 use recording::Recording;
 use replayer::settings_of;
 use std::alloc::Global;
@@ -31,15 +31,15 @@ pub(crate) enum Debuggee {
 /// `File` where it can't be read; `Unread` where it begins as neither, or is no recording; `NoExecution` where it is no execution. Then what
 /// refuses the run: its image, its plan, and more rounds than can be looked at; or what refuses the execution's guest. And the refusal of
 /// memory.
-pub(crate) fn opened<F: PastFiles>(
-    files: &F,
+pub(crate) fn opened<W: World>(
+    world: &W,
     alloc: Global,
     path: &str,
 ) -> Result<Debuggee, CommandFailure>
-    ensures opens { IfOk result (IsDebuggee (F.either files.now) path.now) }
-    ensures errors { IfErr result (IsUnopened (F.either files.now) (F.lacks files.now) path.now) }
+    ensures opens { IfOk result (IsDebuggee (W.files world.now) path.now) }
+    ensures errors { IfErr result (IsUnopened (W.files world.now) path.now) }
 {
-    let past = read_past(files, alloc, path)?;
+    let past = read_past(world, alloc, path)?;
     opened_past(alloc, &past)
 }
 

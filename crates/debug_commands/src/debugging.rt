@@ -10,8 +10,7 @@ use gdb_session::serve;
 use gdb_talk::refuse_each;
 use host_io::{NumberedRefusal, RunError, Sink, Source, put_all};
 use pages::OutOfMemory;
-use past_commands::PastFiles;
-use program_files::{CommandFailure, ExitStatus};
+use program_files::{CommandFailure, ExitStatus, World};
 use report_lines::Line;
 use std::alloc::Global;
 use std::sync::Wait;
@@ -24,10 +23,10 @@ use std::thread::Threads;
 /// # Errors
 ///
 /// `SourceFailed` and `SinkFailed`, and `OutOfMemory` where the debugger couldn't be told of a refusal.
-pub fn debug_command<F: PastFiles, S: Source, K: Sink, E: Sink, R: Threads + Wait + Sync>(
+pub fn debug_command<W: World, S: Source, K: Sink, E: Sink, R: Threads + Wait + Sync>(
     threads: &R,
     alloc: Global,
-    files: &F,
+    world: &W,
     asked: &Gdb<'_>,
     requests: &mut S,
     replies: &mut K,
@@ -36,7 +35,7 @@ pub fn debug_command<F: PastFiles, S: Source, K: Sink, E: Sink, R: Threads + Wai
     // What was read was answered, and nothing else: as the run or the execution of the line's file has it, and then the status is 0; or by
     // the number of what refuses it, and then it is 1, or 3 where RVWMO doesn't allow the execution.
     ensures serves { IfOk result (λ status.
-        IsDebugged (F.either files.now) (F.lacks files.now) asked.now.recording.now status
+        IsDebugged (W.files world.now) asked.now.recording.now status
         (record {
           gave = S.gave requests.old;
           gave_then = S.gave requests.new;
@@ -46,7 +45,7 @@ pub fn debug_command<F: PastFiles, S: Source, K: Sink, E: Sink, R: Threads + Wai
           told_then = E.took errors.new;
         })) }
 {
-    match opened(files, alloc, asked.recording) {
+    match opened(world, alloc, asked.recording) {
         Ok(mut debuggee) => {
             let served = serve_debuggee(threads, alloc, &mut debuggee, requests, replies, errors);
             drop(debuggee);

@@ -2,100 +2,79 @@ ghost use Rattle.std.specs.Prelude.{IfOk};
 ghost use Rattle.dethart.specs.Answers.{IsDoneBy, IsStatusOf};
 
 use crate::debugging::serve_debugger;
-use crate::printing::{
-    put_all, put_drawing, put_execution, put_fences, put_hunt, put_order, put_replay, put_run,
-    put_shrunk, put_trace, put_watch,
-};
-use crate::recordings::make_recording;
 use crate::refusal::finish;
+use all_commands::{EndingsSearcher, all_command};
 use command_line::Command;
 use execution_commands::check_command;
-use host_io::RunError;
-use host_world::{HostMessages, HostOutput, ReadOutput};
-use hunt_commands::{merge_command, plan_command};
+use host_world::HostOutput;
+use hunt_commands::{hunt_command, merge_command, plan_command, shrink_command};
 use hunt_comparison::compare_command;
-use past_commands::PastFiles;
-use program_files::{CommandFailure, ExitStatus};
-use run_commands::migrate_command;
+use past_commands::{replay_command, watch_command};
+use program_files::{CommandFailure, ExitStatus, Output};
+use run_commands::{migrate_command, order_command, record_command, run_command};
 use std::sync::Wait;
 use std::thread::Threads;
+use view_commands::{draw_command, trace_command};
+use weak_commands::{FenceSearches, WeakExecuter, execution_command, fences_command};
 
 /// Does what a command says, and says no more on standard error than the command itself does.
-pub(crate) fn finish_command<F: PastFiles, R: Threads + Wait + Sync>(
+pub(crate) fn finish_command<W: FenceSearches + Copy + Sync, R: Threads + Wait + Sync>(
     rt: &HostRuntime,
     threads: &R,
-    files: &mut F,
+    world: &mut W,
     command: &Command<'_>,
 ) -> ExitStatus
-    ensures { IsStatusOf (F.holds files.old) (F.begins files.old) (F.marked files.old)
-        (F.either files.old)
-        (F.lacks files.old) command.now result }
-{
-    match command {
-        Command::Record(asked) => finish(rt, false, make_recording(rt, threads, files, asked)),
-        Command::Migrate(asked) => finish(rt, false, migrate_command(rt.alloc(), files, asked)),
-        Command::Gdb(asked) => finish(rt, false, serve_debugger(rt, threads, files, asked)),
-        command => print_answer(rt, threads, files, command),
-    }
-}
-
-/// Does what a command says that prints to standard output.
-fn print_answer<F: PastFiles, R: Threads + Wait + Sync>(
-    rt: &HostRuntime,
-    threads: &R,
-    files: &mut F,
-    command: &Command<'_>,
-) -> ExitStatus
-    ensures { IsStatusOf (F.holds files.old) (F.begins files.old) (F.marked files.old)
-        (F.either files.old)
-        (F.lacks files.old) command.now result }
+where
+    W::Progress: Sync,
+    ensures { IsStatusOf (W.files world.old) W.hunts W.fences command.now result }
 {
     match HostOutput::new(rt) {
         Ok(mut out) => {
-            let answer = put_answer(rt, threads, files, command, &mut out);
-            finish(rt, out.reader_is_gone(), answer)
+            let answer = put_answer(rt, threads, world, command, &mut out);
+            finish(rt, out.reader_is_gone, answer)
         }
         Err(error) => finish(rt, false, Err(CommandFailure::from(error))),
     }
 }
 
-/// Prints what a command says to print.
-fn put_answer<F: PastFiles, O: ReadOutput, R: Threads + Wait + Sync>(
+/// Does what a command says, and prints what that is to print.
+fn put_answer<W: FenceSearches + Copy + Sync, O: Output, R: Threads + Wait + Sync>(
     rt: &HostRuntime,
     threads: &R,
-    files: &mut F,
+    world: &mut W,
     command: &Command<'_>,
     out: &mut O,
 ) -> Result<ExitStatus, CommandFailure>
-    ensures { IfOk result (IsDoneBy (record {
-      holds = F.holds files.old;
-      begins = F.begins files.old;
-      marked = F.marked files.old;
-      either = F.either files.old;
-      lacks = F.lacks files.old;
-    }) command.now) }
+where
+    W::Progress: Sync,
+    ensures { IfOk result (IsDoneBy (W.files world.old) W.hunts W.fences command.now) }
 {
+    let alloc = rt.alloc();
     match command {
-        Command::Run(asked) => put_run(rt, threads, files, asked, out),
-        Command::Order(run) => put_order(rt, threads, files, run, out),
-        Command::Replay(asked) => put_replay(rt, threads, files, asked, out),
-        Command::Watch(asked) => put_watch(rt, threads, files, asked, out),
-        Command::Hunt(asked) => put_hunt(rt, threads, files, asked, out),
-        Command::Fences(asked) => put_fences(rt, threads, files, asked, out),
-        Command::All(asked) => put_all(rt, files, asked, out),
-        Command::Shrink(asked) => put_shrunk(rt, threads, files, asked, out),
-        Command::Merge(asked) => {
-            merge_command(rt.alloc(), files, asked, out, &HostMessages { rt })
-        }
-        Command::Compare(asked) => compare_command(rt.alloc(), files, asked, out),
-        Command::Plan(asked) => plan_command(rt.alloc(), asked, out, &HostMessages { rt }),
-        Command::Draw(asked) => put_drawing(rt, threads, files, asked, out),
-        Command::Trace(run) => put_trace(rt, threads, files, run, out),
-        Command::Execution(asked) => put_execution(rt, threads, files, asked, out),
-        Command::Check(asked) => check_command(rt.alloc(), files, asked, out),
-        // These print nothing there, and were done before.
-        Command::Record(_) | Command::Migrate(_) | Command::Gdb(_) => {
-            Err(CommandFailure::from(RunError::SinkFailed))
-        }
+        Command::Run(asked) => run_command(threads, alloc, world, asked, out),
+        Command::Order(run) => order_command(threads, alloc, world, run, out),
+        Command::Record(asked) => record_command(threads, alloc, world, asked),
+        Command::Migrate(asked) => migrate_command(alloc, world, asked),
+        Command::Replay(asked) => replay_command(threads, alloc, world, asked, out),
+        Command::Watch(asked) => watch_command(threads, alloc, world, asked, out),
+        Command::Gdb(asked) => serve_debugger(rt, threads, world, asked),
+        Command::Hunt(asked) => hunt_command(threads, alloc, world, asked, out),
+        Command::Fences(asked) => fences_command(threads, alloc, world, asked, out),
+        Command::All(asked) => all_command(alloc, world, &EndingsSearcher, asked, out),
+        Command::Shrink(asked) => shrink_command(threads, alloc, world, asked, out),
+        Command::Merge(asked) => merge_command(alloc, world, asked, out),
+        Command::Compare(asked) => compare_command(alloc, world, asked, out),
+        Command::Plan(asked) => plan_command(alloc, world, asked, out),
+        Command::Draw(asked) => draw_command(threads, alloc, world, asked, out),
+        Command::Trace(run) => trace_command(threads, alloc, world, run, out),
+        Command::Execution(asked) => execution_command(
+            threads,
+            alloc,
+            world,
+            &WeakExecuter,
+            asked,
+            out,
+        ),
+        Command::Check(asked) => check_command(alloc, world, asked, out),
     }
 }

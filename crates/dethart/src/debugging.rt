@@ -5,21 +5,21 @@ ghost use Rattle.debug_commands.specs.Debugged.{Dialogue, IsDebugged};
 use command_line::Gdb;
 use debug_commands::debug_command;
 use host_io::{ReadSource, WriteSink};
-use past_commands::PastFiles;
-use program_files::{CommandFailure, ExitStatus};
+use program_files::{CommandFailure, ExitStatus, World};
 use std::io;
 use std::sync::Wait;
 use std::thread::Threads;
 
 /// Serves a debugger that looks at the recording or the execution of a file, over standard input and output.
-pub(crate) fn serve_debugger<F: PastFiles, R: Threads + Wait + Sync>(
+#[inline(never)]
+pub(crate) fn serve_debugger<W: World, R: Threads + Wait + Sync>(
     rt: &HostRuntime,
     threads: &R,
-    files: &F,
+    world: &W,
     asked: &Gdb<'_>,
 ) -> Result<ExitStatus, CommandFailure>
     ensures { IfOk result (λ status. (w : Dialogue) ×
-        IsDebugged (F.either files.now) (F.lacks files.now) asked.now.recording.now status w) }
+        IsDebugged (W.files world.now) asked.now.recording.now status w) }
 {
     let mut requests = ReadSource::new(rt.reader());
     let mut replies = WriteSink::new(io::writer(rt));
@@ -27,7 +27,7 @@ pub(crate) fn serve_debugger<F: PastFiles, R: Threads + Wait + Sync>(
     Ok(debug_command(
         threads,
         rt.alloc(),
-        files,
+        world,
         asked,
         &mut requests,
         &mut replies,

@@ -12,56 +12,53 @@ mod commands;
 mod debugging;
 mod failure;
 mod line;
-mod printing;
-mod recordings;
 mod refusal;
-mod run;
 mod unfit;
 mod unread;
 
 use command_line::{Command, asked_by_options, parse_line, with_usage};
 use commands::finish_command;
 use failure::Failure;
-use host_world::HostFiles;
+use host_world::HostWorld;
 use line::{answer_line, arguments, texts_of};
-use past_commands::PastFiles;
 use program_files::ExitStatus;
 use std::process::ExitCode;
 use std::sync::Wait;
 use std::thread::Threads;
 use unfit::tell_unfit;
 use unread::tell_unread;
+use weak_commands::FenceSearches;
 
 fn main(rt: HostRuntime) -> ExitCode {
-    end(&rt, &rt, &mut HostFiles { rt: &rt })
+    end(&rt, &rt, &mut HostWorld { rt: &rt })
 }
 
 /// Does what the command line says, and gives what the program ends with.
-fn end<F: PastFiles, R: Threads + Wait + Sync>(
+fn end<W: FenceSearches + Copy + Sync, R: Threads + Wait + Sync>(
     rt: &HostRuntime,
     threads: &R,
-    files: &mut F,
+    world: &mut W,
 ) -> ExitCode
-    ensures { (status : Status) ×
-        EndsProgram (F.holds files.old) (F.begins files.old) (F.marked files.old)
-        (F.either files.old) (F.lacks files.old) status ×
+where
+    W::Progress: Sync,
+    ensures { (status : Status) × EndsProgram (W.files world.old) W.hunts W.fences status ×
         (exit_status result ≡ status_number status) }
 {
-    let status = status_of_line(rt, threads, files);
+    let status = status_of_line(rt, threads, world);
     ExitCode::from(status.number())
 }
 
 /// Does what the command line says, and gives the status that the program ends with.
-fn status_of_line<F: PastFiles, R: Threads + Wait + Sync>(
+fn status_of_line<W: FenceSearches + Copy + Sync, R: Threads + Wait + Sync>(
     rt: &HostRuntime,
     threads: &R,
-    files: &mut F,
+    world: &mut W,
 ) -> ExitStatus
-    ensures { EndsProgram (F.holds files.old) (F.begins files.old) (F.marked files.old)
-        (F.either files.old)
-        (F.lacks files.old) result }
+where
+    W::Progress: Sync,
+    ensures { EndsProgram (W.files world.old) W.hunts W.fences result }
 {
-    match start(rt, threads, files) {
+    match start(rt, threads, world) {
         Ok(status) => status,
         Err(failure) => {
             // There is nobody left to tell where standard error takes nothing.
@@ -72,64 +69,53 @@ fn status_of_line<F: PastFiles, R: Threads + Wait + Sync>(
 }
 
 /// Does what the command line says, on the threads that `threads` starts.
-fn start<F: PastFiles, R: Threads + Wait + Sync>(
+fn start<W: FenceSearches + Copy + Sync, R: Threads + Wait + Sync>(
     rt: &HostRuntime,
     threads: &R,
-    files: &mut F,
+    world: &mut W,
 ) -> Result<ExitStatus, Failure>
+where
+    W::Progress: Sync,
     ensures { IfOk result (λ status. (words : List (List ℕ)) ×
-        EndsLine (F.holds files.old) (F.begins files.old)
-        (F.marked files.old) (F.either files.old) (F.lacks files.old) words status) }
+        EndsLine (W.files world.old) W.hunts W.fences words status) }
 {
+    // The first is the program's name.
     let arguments = arguments(rt)?;
-    obey_arguments(rt, threads, files, arguments.as_slice())
-}
-
-/// Does what these arguments say, of which the first is the program's name.
-fn obey_arguments<F: PastFiles, R: Threads + Wait + Sync>(
-    rt: &HostRuntime,
-    threads: &R,
-    files: &mut F,
-    arguments: &[String],
-) -> Result<ExitStatus, Failure>
-    ensures { IfOk result (λ status. (words : List (List ℕ)) ×
-        EndsLine (F.holds files.old) (F.begins files.old)
-        (F.marked files.old) (F.either files.old) (F.lacks files.old) words status) }
-{
-    let words = texts_of(rt.alloc(), arguments)?;
-    obey_words(rt, threads, files, words.as_slice())
+    let words = texts_of(rt.alloc(), arguments.as_slice())?;
+    obey_words(rt, threads, world, words.as_slice())
 }
 
 /// Does what the words of a line say.
-fn obey_words<F: PastFiles, R: Threads + Wait + Sync>(
+fn obey_words<W: FenceSearches + Copy + Sync, R: Threads + Wait + Sync>(
     rt: &HostRuntime,
     threads: &R,
-    files: &mut F,
+    world: &mut W,
     words: &[&str],
 ) -> Result<ExitStatus, Failure>
-    ensures { IfOk result (EndsLine (F.holds files.old) (F.begins files.old) (F.marked files.old)
-        (F.either files.old)
-        (F.lacks files.old) (map (λ s. s.now) words.now)) }
+where
+    W::Progress: Sync,
+    ensures { IfOk result (EndsLine (W.files world.old) W.hunts W.fences
+        (map (λ s. s.now) words.now)) }
 {
     let words = asked_by_options(rt.alloc(), words)?;
     match parse_line(rt.alloc(), words.as_slice()) {
-        Ok(command) => Ok(obey(rt, threads, files, &command)),
+        Ok(command) => Ok(obey(rt, threads, world, &command)),
         Err(error) => answer_line(rt, with_usage(rt.alloc(), words.as_slice(), error)),
     }
 }
 
 /// Does what a command says.
-fn obey<F: PastFiles, R: Threads + Wait + Sync>(
+fn obey<W: FenceSearches + Copy + Sync, R: Threads + Wait + Sync>(
     rt: &HostRuntime,
     threads: &R,
-    files: &mut F,
+    world: &mut W,
     command: &Command<'_>,
 ) -> ExitStatus
-    ensures { IsStatusOf (F.holds files.old) (F.begins files.old) (F.marked files.old)
-        (F.either files.old)
-        (F.lacks files.old) command.now result }
+where
+    W::Progress: Sync,
+    ensures { IsStatusOf (W.files world.old) W.hunts W.fences command.now result }
 {
-    let status = finish_command(rt, threads, files, command);
+    let status = finish_command(rt, threads, world, command);
     // What refuses the command comes first.
     tell_unread(rt, command);
     tell_unfit(rt, command);

@@ -1,8 +1,8 @@
 //! Programs that weren't built for the harts that there are.
 
 use command_line::{Command, Program};
-use host_world::{HostFiles, HostMessages};
-use program_files::{Files, tell_of_flags};
+use host_world::HostWorld;
+use program_files::{World, tell_of_flags};
 use std::fs;
 
 /// Says on standard error where the flags of the ELF file that a command ran say that it was built for more than a hart has. It is no
@@ -16,8 +16,9 @@ pub(crate) fn tell_unfit(rt: &HostRuntime, command: &Command<'_>) {
     if program.flat || !is_plain {
         return;
     }
-    if let Ok(beginning) = (HostFiles { rt }).read_beginning(program.image, 52) {
-        tell_of_flags(&HostMessages { rt }, program.image, &beginning);
+    let world = HostWorld { rt };
+    if let Ok(beginning) = world.read_beginning(program.image, 52) {
+        tell_of_flags(&world, program.image, &beginning);
     }
 }
 

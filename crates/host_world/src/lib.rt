@@ -1,18 +1,13 @@
-//! The world of the program: the files of the host, its streams, who reads them, and how far a command is. Nothing can be proved of a
-//! host, so the relations of its files and of its output say nothing here: a command is proved for all that they may say.
+//! The world of the program: the files of the host, its streams, and how far a command is. Nothing can be proved of a host, so the
+//! relations of its files and of its output say nothing here: a command is proved for all that they may say.
 #![tactic(auto)]
 
-mod fence_searches;
-mod files;
-mod messages;
 mod output;
 mod progress;
 mod saving;
-mod weak_hunts;
+mod searches;
+mod world;
 
-pub use fence_searches::FenceSearcher;
-pub use files::HostFiles;
-pub use messages::HostMessages;
-pub use output::{HostOutput, ReadOutput};
-pub use progress::Progress;
-pub use weak_hunts::WeakHunter;
+pub use output::HostOutput;
+pub use progress::HostProgress;
+pub use world::HostWorld;

@@ -72,18 +72,6 @@ impl Sink for HostOutput<'_> {
     }
 }
 
-/// An output that knows whether what reads it has gone.
-pub trait ReadOutput: Output {
-    /// What reads it has gone, as `head` does: so the last bytes that it didn't take say.
-    fn reader_is_gone(&self) -> bool;
-}
-
-impl ReadOutput for HostOutput<'_> {
-    fn reader_is_gone(&self) -> bool {
-        self.reader_is_gone
-    }
-}
-
 impl Output for HostOutput<'_> {
     ghost is_out = { λ _. ⊤ };
 

@@ -2,10 +2,6 @@
 
 ghost use Rattle.std.specs.Prelude.{◌≡◌, None, false};
 
-use endings_finder::EndingsObserver;
-use execution_scripts::ExecutionFile;
-use fence_finder::FenceObserver;
-use fence_table::NamedGap;
 use hunter::{HuntObserver, ShrinkObserver};
 use machine::{Observer, UntracedMachine};
 use plan_hunt::{Row, are_well};
@@ -13,13 +9,10 @@ use program_files::ProgressLine;
 use std::sync::atomic::{AtomicBool, AtomicU32, AtomicU64, Ordering};
 use std::time::Instant;
 
-/// How many numbers the first block of a search has, where it is told how far that is.
-const FIRST_BLOCK: u32 = 64;
-
 /// Tells once a second how far a command is, in a line that is written over the one before it. Where nobody asks for that, it
 /// tells nothing. The threads of a hunt share it.
 #[derive(Drop)]
-pub struct Progress<'a> {
+pub struct HostProgress<'a> {
     rt: &'a HostRuntime,
     /// When the command began, where it is told how far it is.
     pub clock: Option<Instant>,
@@ -46,45 +39,37 @@ pub struct Progress<'a> {
     bad: AtomicU64,
 }
 
-impl<'a> Progress<'a> {
-    /// Tells, where it is asked for, how far a command is that has so many rounds or plans to do.
-    pub fn new(rt: &'a HostRuntime, asked: bool, all: u32) -> Progress<'a>
+impl<'a> HostProgress<'a> {
+    /// Tells, where it is asked for, how far a command is that has so many rounds or plans to do. A hunt by so many workers has a plan for each
+    /// in its first block, and begins no plan after so many seconds, if there is such a limit. Where the time can't be read there is none left.
+    pub(crate) fn new(
+        rt: &'a HostRuntime,
+        asked: bool,
+        all: u32,
+        workers: u32,
+        seconds: Option<u32>,
+    ) -> HostProgress<'a>
         ensures all { result.all ≡ all }
         ensures silent { asked ≡ false → result.clock ≡ None }
     {
-        Progress {
+        HostProgress {
             rt,
             clock: if asked { now(rt) } else { None },
             all,
-            limit: None,
+            limit: match seconds {
+                Some(seconds) => Some((now(rt), seconds)),
+                None => None,
+            },
             told: AtomicU64::new(0),
             is_open: AtomicBool::new(false),
-            least: 1,
-            block: AtomicU32::new(FIRST_BLOCK),
+            least: workers,
+            block: AtomicU32::new(workers),
             block_ended: AtomicU64::new(0),
             plans: AtomicU64::new(0),
             rounds: AtomicU64::new(0),
             endings: AtomicU64::new(0),
             bad: AtomicU64::new(0),
         }
-    }
-
-    /// Tells it of a hunt by so many workers, whose first block has a plan for each, and which begins no plan after so many seconds, if
-    /// there is such a limit. Where the time can't be read there is none left.
-    pub fn of_hunt(
-        rt: &'a HostRuntime,
-        asked: bool,
-        all: u32,
-        workers: u32,
-        seconds: Option<u32>,
-    ) -> Progress<'a> {
-        let mut progress = Progress::new(rt, asked, all);
-        progress.least = workers;
-        progress.block = AtomicU32::new(workers);
-        if let Some(seconds) = seconds {
-            progress.limit = Some((now(rt), seconds));
-        }
-        progress
     }
 
     /// How many seconds ago the command began, where that is a greater number than when a line was last written.
@@ -151,19 +136,7 @@ fn now(rt: &HostRuntime) -> Option<Instant> {
     Instant::now(rt).ok()
 }
 
-impl ProgressLine for Progress<'_> {
-    fn expect(&mut self, all: u32) {
-        self.all = all;
-    }
-
-    fn end(&self) {
-        if self.is_open.swap(false, Ordering::SeqCst) {
-            let _unwritten = eprintln!(self.rt);
-        }
-    }
-}
-
-impl Observer for Progress<'_> {
+impl Observer for HostProgress<'_> {
     fn after_round(&mut self, machine: &UntracedMachine) {
         let Some(seconds) = self.next_second() else {
             return;
@@ -181,7 +154,7 @@ impl Observer for Progress<'_> {
     }
 }
 
-impl HuntObserver for Progress<'_> {
+impl HuntObserver for HostProgress<'_> {
     fn before_block(&self, _done: u32, rows: &[Row]) -> u32 {
         let bad = rows
             .iter()
@@ -219,15 +192,30 @@ impl HuntObserver for Progress<'_> {
     }
 }
 
-impl FenceObserver for Progress<'_> {
-    fn before_block(&self, _done: u32, failing: usize) -> u32 {
+impl ShrinkObserver for HostProgress<'_> {
+    fn after_run(&mut self, rows: usize) {
+        let runs = self.plans.fetch_add(1, Ordering::SeqCst).saturating_add(1);
+        if let Some(seconds) = self.next_second() {
+            let _unwritten = eprint!(self.rt; "\r{runs} runs, {rows} rows, {seconds} s\x1b[K");
+        }
+    }
+}
+
+impl ProgressLine for HostProgress<'_> {
+    fn expect(&mut self, all: u32) {
+        self.all = all;
+    }
+
+    fn end(&self) {
+        if self.is_open.swap(false, Ordering::SeqCst) {
+            let _unwritten = eprintln!(self.rt);
+        }
+    }
+
+    fn before_numbers(&self, failing: usize) -> u32 {
         self.endings.store(failing as u64, Ordering::SeqCst);
         self.tell_fences();
         self.next_block()
-    }
-
-    fn has_time(&self) -> bool {
-        HuntObserver::has_time(self)
     }
 
     fn after_number(&self) {
@@ -237,32 +225,19 @@ impl FenceObserver for Progress<'_> {
         }
     }
 
-    fn after_rounds(&self, rounds: u32) {
+    fn after_execution(&self, rounds: u32) {
         if self.clock.is_some() {
             let _before = self.rounds.fetch_add(u64::from(rounds), Ordering::SeqCst);
             self.tell_fences();
         }
     }
 
-    fn found(&self, _gap: &NamedGap, _number: u32, _execution: Option<&ExecutionFile>) {}
-}
-
-impl EndingsObserver for Progress<'_> {
     fn look(&mut self, nodes: u64, stores: u64, endings: u64) -> bool {
         if let Some(seconds) = self.next_second() {
             let _unwritten = eprint!(self.rt;
                 "\r{nodes} nodes, up to {stores} stores, {endings} endings, {seconds} s\x1b[K"
             );
         }
-        HuntObserver::has_time(self)
-    }
-}
-
-impl ShrinkObserver for Progress<'_> {
-    fn after_run(&mut self, rows: usize) {
-        let runs = self.plans.fetch_add(1, Ordering::SeqCst).saturating_add(1);
-        if let Some(seconds) = self.next_second() {
-            let _unwritten = eprint!(self.rt; "\r{runs} runs, {rows} rows, {seconds} s\x1b[K");
-        }
+        self.has_time()
     }
 }

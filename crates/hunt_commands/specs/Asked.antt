@@ -1,6 +1,5 @@
--- What a hunt that a line asks for is given, the table that it makes, and why it is refused. `holds` and `begins` say what files hold,
--- `lacks` that one couldn't be read for a fault, `failed` that the output failed, and `weakly` that rows are the table that a weak hunt
--- makes in executions of so many steps.
+-- What a hunt that a line asks for is given, the table that it makes, and why it is refused. `failed` says that the output failed, and
+-- `weakly` that rows are the table that a weak hunt makes in executions of so many steps.
 use Rattle.std.specs.Prelude.{◌≡◌, ◌⊎◌, ℕ, List, Bool, true, false, Option, Some, None}
 use Rattle.command_line.specs.declared.settings.Hunt.{Hunt}
 use Rattle.command_line.specs.declared.settings.Search.{Search}
@@ -8,6 +7,7 @@ use Rattle.host_io.specs.declared.error.RunError.TheVariants as refusals
 use Rattle.host_io.specs.declared.load_error.LoadError.{LoadError as ImageCause}
 use Rattle.program_files.specs.declared.failure.CommandFailure.{CommandFailure}
 use Rattle.program_files.specs.declared.failure.CommandFailure.TheVariants as failures
+use Rattle.hunt_commands.specs.Relations.{HuntRelation}
 use Rattle.hunt_commands.specs.Settings.{HasEnd, HasNumbers, HasRanges, IsNamed}
 use Rattle.hunt_table.specs.Programs.{fingerprint_of}
 use Rattle.hunt_table.specs.Text.{table_text, with_count}
@@ -19,7 +19,7 @@ use Rattle.program_files.specs.declared.fault.NamingFault.{NamingFault}
 use Rattle.plan_hunt.specs.declared.row.Row.{Row}
 use Rattle.program_files.specs.Asked.{IsFileOfProgram, IsProgramOf, LacksSpurious}
 use Rattle.program_files.specs.Failures.{IsCutEnd, IsFileFailure}
-use Rattle.program_files.specs.declared.files.FileFault.{FileFault}
+use Rattle.program_files.specs.Relations.{FileRelations}
 use Rattle.weak_hunter.specs.WeakHunts.{IsWeaklyHunted}
 use Rattle.weak_hunter.specs.declared.error.WeakHuntError.{WeakHuntError}
 use Rattle.weak_hunter.specs.declared.error.WeakHuntError.TheVariants as hunts
@@ -28,12 +28,12 @@ use Rattle.weak_hunter.specs.declared.error.WeakHuntError.TheVariants as hunts
 
 -- the rows are the table of the hunt, which is over after so many numbers: of its runs or, if it is weak, of executions of so many steps
 -- that RVWMO allows
-abbrev pub IsTableBy : (HuntSettings → List ℕ → List ℕ → ℕ → ℕ → List Row → Type 0) → ℕ → Bool → HuntSettings → List ℕ → List ℕ → ℕ → List Row → Type 0
+abbrev pub IsTableBy : HuntRelation → ℕ → Bool → HuntSettings → List ℕ → List ℕ → ℕ → List Row → Type 0
 IsTableBy weakly steps false s image input n rows = IsHunted s image input n rows
 IsTableBy weakly steps true s image input n rows = IsWeaklyHunted s image input n rows × weakly s image input steps n rows
 
 -- a hunt by what the line says: its settings, after how many numbers it is over, and its table
-pub record SetHunt (weakly : HuntSettings → List ℕ → List ℕ → ℕ → ℕ → List Row → Type 0) (asked : Hunt) (image input : List ℕ) : Type 0 where
+pub record SetHunt (weakly : HuntRelation) (asked : Hunt) (image input : List ℕ) : Type 0 where
   pub settings : HuntSettings
   pub done : ℕ
   pub rows : List Row
@@ -44,15 +44,14 @@ pub record SetHunt (weakly : HuntSettings → List ℕ → List ℕ → ℕ → 
   pub table : IsTableBy weakly asked.steps asked.weak settings image input done rows
 
 -- the text of its table
-abbrev pub hunt_text : {weakly : HuntSettings → List ℕ → List ℕ → ℕ → ℕ → List Row → Type 0} {asked : Hunt} {image input : List ℕ} → SetHunt weakly asked image input → List ℕ
+abbrev pub hunt_text : {weakly : HuntRelation} {asked : Hunt} {image input : List ℕ} → SetHunt weakly asked image input → List ℕ
 hunt_text h = table_text (with_count h.settings.header h.done) h.rows
 
 -- the hunt that a line asks for
-pub record AskedHunt (holds : List ℕ → List ℕ → Type 0) (begins : List ℕ → ℕ → List ℕ → Type 0)
-    (weakly : HuntSettings → List ℕ → List ℕ → ℕ → ℕ → List Row → Type 0) (asked : Hunt) : Type 0 where
+pub record AskedHunt (files : FileRelations) (weakly : HuntRelation) (asked : Hunt) : Type 0 where
   pub image : List ℕ
   pub input : List ℕ
-  pub given : IsProgramOf holds begins asked.search.program image input
+  pub given : IsProgramOf files asked.search.program image input
   pub made : SetHunt weakly asked image input
 
 -- ---- refusals
@@ -101,14 +100,14 @@ abbrev pub IsHuntEnd : Hunt → List ℕ → Type 0 → CommandFailure → Type 
 IsHuntEnd asked image failed f = IsCutEnd failed f ⊎ RefusedSearch asked.search asked.first asked.plans asked.weak hunt_fault image failed f
 
 -- the hunt that a line asks for is refused
-pub record RefusedHunt (holds : List ℕ → List ℕ → Type 0) (begins : List ℕ → ℕ → List ℕ → Type 0) (asked : Hunt) (failed : Type 0) (f : CommandFailure) : Type 0 where
+pub record RefusedHunt (files : FileRelations) (asked : Hunt) (failed : Type 0) (f : CommandFailure) : Type 0 where
   pub image : List ℕ
   pub input : List ℕ
-  pub given : IsProgramOf holds begins asked.search.program image input
+  pub given : IsProgramOf files asked.search.program image input
   pub refused : RefusedSearch asked.search asked.first asked.plans asked.weak hunt_fault image failed f
 
 -- why the command ends without its table
-abbrev pub EndsHunt : (List ℕ → List ℕ → Type 0) → (List ℕ → ℕ → List ℕ → Type 0) → (List ℕ → FileFault → Type 0) → Hunt → Type 0 → CommandFailure → Type 0
-EndsHunt holds begins lacks asked failed f =
-    IsFileFailure lacks (IsFileOfProgram asked.search.program) (LacksSpurious holds begins asked.search.program) f ⊎ IsCutEnd failed f
-    ⊎ RefusedHunt holds begins asked failed f
+abbrev pub EndsHunt : FileRelations → Hunt → Type 0 → CommandFailure → Type 0
+EndsHunt files asked failed f =
+    IsFileFailure files (IsFileOfProgram asked.search.program) (LacksSpurious files asked.search.program) f ⊎ IsCutEnd failed f
+    ⊎ RefusedHunt files asked failed f

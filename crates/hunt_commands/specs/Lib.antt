@@ -4,3 +4,4 @@ pub mod Merges
 pub mod Plans
 pub mod Shrinks
 pub mod Status
+pub mod Relations

@@ -1,5 +1,4 @@
--- The table that `merge` prints, and why it ends without it. `holds` says what files hold, `lacks` that one couldn't be read for a fault, and
--- `failed` that the output failed.
+-- The table that `merge` prints, and why it ends without it. `world` says what files hold, and `failed` that the output failed.
 use Rattle.std.specs.Prelude.{◌≡◌, ◌≢◌, ◌⊎◌, ◌≤◌, ◌<◌, ◌+◌, ◌-◌, ◌++◌, ◌∷◌, All, IsPermutation, List, None, Option, Some, length, map, slice_index_or, string_bytes, ℕ}
 use Rattle.std.specs.Global.{Vec}
 use Rattle.std.specs.List.Sorted.{IsNonDecreasingBy, IsStableByKey}
@@ -17,7 +16,7 @@ use Rattle.hunt_table.specs.declared.merge_error.MergeError.{MergeError}
 use Rattle.hunt_table.specs.declared.merge_error.MergeError.TheVariants as merging
 use Rattle.hunt_table.specs.declared.table.Table.{Table}
 use Rattle.program_files.specs.Failures.{IsCutEnd, IsFileFailure}
-use Rattle.program_files.specs.declared.files.FileFault.{FileFault}
+use Rattle.program_files.specs.Relations.{FileRelations}
 
 -- ---- the tables of a line
 
@@ -31,22 +30,22 @@ abbrev pub text_of : TableFile → Vec ℕ
 text_of f = f.text
 
 -- the file held a text of the table
-pub record HoldsTable (holds : List ℕ → List ℕ → Type 0) (f : TableFile) : Type 0 where
-  pub held : holds f.path.now f.text.items
+pub record HoldsTable (world : FileRelations) (f : TableFile) : Type 0 where
+  pub held : world.holds f.path.now f.text.items
   pub is_text : IsTextOf f.table.header f.table.rows.items f.text.items
 
 -- the files are those of the paths, and they held these tables
-pub record AreRead (holds : List ℕ → List ℕ → Type 0) (paths : List (List ℕ)) (files : List TableFile) : Type 0 where
+pub record AreRead (world : FileRelations) (paths : List (List ℕ)) (files : List TableFile) : Type 0 where
   pub of_paths : map path_of files ≡ paths
-  pub held : All (HoldsTable holds) files
+  pub held : All (HoldsTable world) files
 
 abbrev pub first_plan : TableFile → ℕ
 first_plan f = f.table.header.first
 
 -- the files are those of the paths in the order of their tables' first plans; those of one first plan stay in the order of the paths
-pub record AreTables (holds : List ℕ → List ℕ → Type 0) (paths : List (List ℕ)) (files : List TableFile) : Type 0 where
+pub record AreTables (world : FileRelations) (paths : List (List ℕ)) (files : List TableFile) : Type 0 where
   pub named : List TableFile
-  pub read : AreRead holds paths named
+  pub read : AreRead world paths named
   pub same : IsPermutation named files
   pub in_order : IsNonDecreasingBy first_plan files
   pub stable : IsStableByKey first_plan nat_cmp named files
@@ -63,9 +62,9 @@ abbrev pub merged_text : {files : List TableFile} → SetMerge files → List �
 merged_text m = table_text m.table.header m.table.rows.items
 
 -- the merge that a line asks for
-pub record AskedMerge (holds : List ℕ → List ℕ → Type 0) (asked : Merge) : Type 0 where
+pub record AskedMerge (world : FileRelations) (asked : Merge) : Type 0 where
   pub files : List TableFile
-  pub tables : AreTables holds (paths_of asked) files
+  pub tables : AreTables world (paths_of asked) files
   pub made : SetMerge files
 
 -- ---- tables apart
@@ -131,22 +130,22 @@ pub record AreFirstApart (files : List TableFile) (last next : List ℕ) (why : 
 -- ---- refusals
 
 -- the file of a path held no table
-abbrev pub HoldsNone : (List ℕ → List ℕ → Type 0) → List ℕ → CommandFailure → Type 0
-HoldsNone holds path (failures.NotATable named) = (string_bytes named ≡ path) × (text : List ℕ) × holds path text × IsNoTable text
-HoldsNone holds path _ = ⊥
+abbrev pub HoldsNone : FileRelations → List ℕ → CommandFailure → Type 0
+HoldsNone world path (failures.NotATable named) = (string_bytes named ≡ path) × (text : List ℕ) × world.holds path text × IsNoTable text
+HoldsNone world path _ = ⊥
 
 -- that, or it can't be read
-abbrev pub IsUntabled : (List ℕ → List ℕ → Type 0) → (List ℕ → FileFault → Type 0) → List ℕ → CommandFailure → Type 0
-IsUntabled holds lacks path failure = IsFileFailure lacks (λ named. named ≡ path) ⊥ failure ⊎ HoldsNone holds path failure
+abbrev pub IsUntabled : FileRelations → List ℕ → CommandFailure → Type 0
+IsUntabled world path failure = IsFileFailure world (λ named. named ≡ path) ⊥ failure ⊎ HoldsNone world path failure
 
 -- of the paths, this one is the first whose file held no table
-pub record IsFirstUntabled (holds : List ℕ → List ℕ → Type 0) (paths : List (List ℕ)) (path : List ℕ) : Type 0 where
+pub record IsFirstUntabled (world : FileRelations) (paths : List (List ℕ)) (path : List ℕ) : Type 0 where
   pub before : List TableFile
   pub after : List (List ℕ)
   pub stands : paths ≡ map path_of before ++ path ∷ after
-  pub tables : All (HoldsTable holds) before
+  pub tables : All (HoldsTable world) before
   pub text : List ℕ
-  pub held : holds path text
+  pub held : world.holds path text
   pub no_table : IsNoTable text
 
 -- it is one of the paths
@@ -154,13 +153,13 @@ abbrev pub IsOneOf : List (List ℕ) → List ℕ → Type 0
 IsOneOf paths path = (before : List (List ℕ)) × (after : List (List ℕ)) × (paths ≡ before ++ path ∷ after)
 
 -- the file that is told is the first of the paths' that held no table
-abbrev pub TellsFirst : (List ℕ → List ℕ → Type 0) → List (List ℕ) → CommandFailure → Type 0
-TellsFirst holds paths (failures.NotATable path) = IsFirstUntabled holds paths (string_bytes path)
-TellsFirst holds paths _ = ⊥
+abbrev pub TellsFirst : FileRelations → List (List ℕ) → CommandFailure → Type 0
+TellsFirst world paths (failures.NotATable path) = IsFirstUntabled world paths (string_bytes path)
+TellsFirst world paths _ = ⊥
 
 -- why not all files give a table
-abbrev pub IsReadEnd : (List ℕ → List ℕ → Type 0) → (List ℕ → FileFault → Type 0) → List (List ℕ) → CommandFailure → Type 0
-IsReadEnd holds lacks paths failure = IsFileFailure lacks (IsOneOf paths) ⊥ failure ⊎ TellsFirst holds paths failure
+abbrev pub IsReadEnd : FileRelations → List (List ℕ) → CommandFailure → Type 0
+IsReadEnd world paths failure = IsFileFailure world (IsOneOf paths) ⊥ failure ⊎ TellsFirst world paths failure
 
 -- why texts aren't merged that are those of tables of which each goes on where the one before it ends
 abbrev pub IsRefusal : MergeError → List (Vec ℕ) → Type 0
@@ -184,11 +183,11 @@ abbrev pub IsMergeEnd : List TableFile → Type 0 → CommandFailure → Type 0
 IsMergeEnd files failed failure = IsCutEnd failed failure ⊎ TellsApart files failure ⊎ TellsRefusal files failure
 
 -- the same of the files of a line
-pub record IsRefusedMerge (holds : List ℕ → List ℕ → Type 0) (asked : Merge) (failed : Type 0) (f : CommandFailure) : Type 0 where
+pub record IsRefusedMerge (world : FileRelations) (asked : Merge) (failed : Type 0) (f : CommandFailure) : Type 0 where
   pub files : List TableFile
-  pub tables : AreTables holds (paths_of asked) files
+  pub tables : AreTables world (paths_of asked) files
   pub refused : IsMergeEnd files failed f
 
 -- why the command ends without its table
-abbrev pub EndsMerge : (List ℕ → List ℕ → Type 0) → (List ℕ → FileFault → Type 0) → Merge → Type 0 → CommandFailure → Type 0
-EndsMerge holds lacks asked failed failure = IsReadEnd holds lacks (paths_of asked) failure ⊎ IsCutEnd failed failure ⊎ IsRefusedMerge holds asked failed failure
+abbrev pub EndsMerge : FileRelations → Merge → Type 0 → CommandFailure → Type 0
+EndsMerge world asked failed failure = IsReadEnd world (paths_of asked) failure ⊎ IsCutEnd failed failure ⊎ IsRefusedMerge world asked failed failure

@@ -10,7 +10,7 @@ use Rattle.round_planner.specs.Families.{family_plan}
 use Rattle.plan_hunt.specs.Steps.{IsShrunk}
 use Rattle.program_files.specs.Asked.{IsFileOfProgram, IsProgramOf, LacksSpurious}
 use Rattle.program_files.specs.Failures.{IsCutEnd, IsFileFailure}
-use Rattle.program_files.specs.declared.files.FileFault.{FileFault}
+use Rattle.program_files.specs.Relations.{FileRelations}
 use Rattle.round_planner.specs.PlanText.{plan_text}
 use Rattle.round_planner.specs.Quotas.{Planned}
 
@@ -27,10 +27,10 @@ abbrev pub shrunk_text : {asked : Shrink} {image input : List ℕ} → SetShrink
 shrunk_text s = plan_text s.plan.rows
 
 -- the search that a line asks for
-pub record AskedShrink (holds : List ℕ → List ℕ → Type 0) (begins : List ℕ → ℕ → List ℕ → Type 0) (asked : Shrink) : Type 0 where
+pub record AskedShrink (files : FileRelations) (asked : Shrink) : Type 0 where
   pub image : List ℕ
   pub input : List ℕ
-  pub given : IsProgramOf holds begins asked.search.program image input
+  pub given : IsProgramOf files asked.search.program image input
   pub made : SetShrink asked image input
 
 -- why it ends without a plan, where its files were read: there is no output yet that could fail
@@ -38,14 +38,14 @@ abbrev pub IsShrinkEnd : Shrink → List ℕ → CommandFailure → Type 0
 IsShrinkEnd asked image f = IsCutEnd ⊥ f ⊎ RefusedSearch asked.search asked.plan_number 1 false shrink_fault image ⊥ f
 
 -- the search that a line asks for is refused
-pub record RefusedShrink (holds : List ℕ → List ℕ → Type 0) (begins : List ℕ → ℕ → List ℕ → Type 0) (asked : Shrink) (f : CommandFailure) : Type 0 where
+pub record RefusedShrink (files : FileRelations) (asked : Shrink) (f : CommandFailure) : Type 0 where
   pub image : List ℕ
   pub input : List ℕ
-  pub given : IsProgramOf holds begins asked.search.program image input
+  pub given : IsProgramOf files asked.search.program image input
   pub refused : RefusedSearch asked.search asked.plan_number 1 false shrink_fault image ⊥ f
 
 -- why the command ends without a plan
-abbrev pub EndsShrink : (List ℕ → List ℕ → Type 0) → (List ℕ → ℕ → List ℕ → Type 0) → (List ℕ → FileFault → Type 0) → Shrink → Type 0 → CommandFailure → Type 0
-EndsShrink holds begins lacks asked failed f =
-    IsFileFailure lacks (IsFileOfProgram asked.search.program) (LacksSpurious holds begins asked.search.program) f ⊎ IsCutEnd failed f
-    ⊎ RefusedShrink holds begins asked f
+abbrev pub EndsShrink : FileRelations → Shrink → Type 0 → CommandFailure → Type 0
+EndsShrink files asked failed f =
+    IsFileFailure files (IsFileOfProgram asked.search.program) (LacksSpurious files asked.search.program) f ⊎ IsCutEnd failed f
+    ⊎ RefusedShrink files asked f

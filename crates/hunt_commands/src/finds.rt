@@ -3,33 +3,33 @@
 use crate::repeating::ending_line_of;
 use command_line::Hunt;
 use plan_hunt::{HuntObserver, Row};
-use program_files::{Messages, ProgressLine};
+use program_files::{ProgressLine, World};
 use std::alloc::{AllocError, Global};
 use std::sync::atomic::{AtomicUsize, Ordering};
 
 /// Says on standard error the line that repeats each new ending, where the line asks for progress, and tells who looks on of everything.
 #[derive(Drop)]
-pub struct Finds<'a, P, M> {
+pub struct Finds<'a, P, W> {
     /// The line, but for the number; none where nothing is told.
     line: Option<String>,
     seed: u64,
     progress: &'a P,
-    messages: &'a M,
+    pub(crate) world: &'a W,
     /// How many endings were told.
     told: AtomicUsize,
 }
 
-impl<'a, P: HuntObserver + ProgressLine, M: Messages> Finds<'a, P, M> {
+impl<'a, P: ProgressLine, W: World> Finds<'a, P, W> {
     /// The finds of a hunt that begins now.
     ///
     /// # Errors
     ///
     /// The allocator's alone.
-    pub fn new(
+    pub(crate) fn new(
         alloc: Global,
         asked: &Hunt<'_>,
         progress: &'a P,
-        messages: &'a M,
+        world: &'a W,
     ) -> Result<Self, AllocError> {
         let line = if asked.search.program.progress {
             Some(ending_line_of(alloc, asked)?)
@@ -40,38 +40,24 @@ impl<'a, P: HuntObserver + ProgressLine, M: Messages> Finds<'a, P, M> {
             line,
             seed: asked.search.seed,
             progress,
-            messages,
+            world,
             told: AtomicUsize::new(0),
         })
     }
-
-    /// Tells of the endings that weren't told yet.
-    fn tell_new(&self, line: &str, rows: &[Row]) {
-        let told = self.told.swap(rows.len(), Ordering::SeqCst);
-        let seed = self.seed;
-        for (index, row) in rows.iter().enumerate().skip(told) {
-            let (number, first) = (index.saturating_add(1), row.first);
-            self.progress.end();
-            self.messages.tell(format_args!(
-                "found ending {number}: {line} --plan-number {first} --seed {seed}"
-            ));
-        }
-    }
 }
 
-impl<P: ProgressLine, M> ProgressLine for Finds<'_, P, M> {
-    /// How many there are in all is known before.
-    fn expect(&mut self, _all: u32) {}
-
-    fn end(&self) {
-        self.progress.end();
-    }
-}
-
-impl<P: HuntObserver + ProgressLine, M: Messages> HuntObserver for Finds<'_, P, M> {
+impl<P: ProgressLine, W: World> HuntObserver for Finds<'_, P, W> {
     fn before_block(&self, done: u32, rows: &[Row]) -> u32 {
         if let Some(line) = &self.line {
-            self.tell_new(line.as_str(), rows);
+            let told = self.told.swap(rows.len(), Ordering::SeqCst);
+            let seed = self.seed;
+            for (index, row) in rows.iter().enumerate().skip(told) {
+                let (number, first) = (index.saturating_add(1), row.first);
+                self.progress.end();
+                self.world.tell(format_args!(
+                    "found ending {number}: {line} --plan-number {first} --seed {seed}"
+                ));
+            }
         }
         self.progress.before_block(done, rows)
     }

@@ -10,7 +10,7 @@ use crate::status::hunt_status;
 use crate::table_files::{TableFile, tables_in_order, texts_of};
 use command_line::Merge;
 use hunt_table::{Table, merge};
-use program_files::{Apart, CommandFailure, ExitStatus, Files, Messages, Output};
+use program_files::{Apart, CommandFailure, ExitStatus, Output, World};
 use std::alloc::{AllocError, Global};
 
 /// Joins the tables of some files, whose order doesn't matter, and prints the table of all their plans. Standard error says for each ending
@@ -21,29 +21,28 @@ use std::alloc::{AllocError, Global};
 /// For the files in the order of the line, `File` where one can't be read and `NotATable` where one has no table; then `Apart` for the
 /// first two neighbours, in the order of their first plans, of which the second isn't the slice that follows; then `Merge`. The refusal of
 /// memory comes at any time, and `SinkFailed` at last where the output can't be written.
-pub fn merge_command<F: Files, O: Output, M: Messages>(
+pub fn merge_command<W: World, O: Output>(
     alloc: Global,
-    files: &F,
+    world: &W,
     asked: &Merge<'_>,
     out: &mut O,
-    messages: &M,
 ) -> Result<ExitStatus, CommandFailure>
     // All that was printed is the table that those in the files of the line are merged to, and the status is that of this table.
-    ensures merges { IfOk result (λ status. (a : AskedMerge (F.holds files.now) asked.now) ×
+    ensures merges { IfOk result (λ status. (a : AskedMerge (W.files world.now) asked.now) ×
         (O.took out.new ≡ O.took out.old ++ merged_text a.made) × O.is_out out.new ×
         (status ≡ hunt_status asked.now.fail_on a.made.table.rows.items)) }
     // Else nothing was printed, or a beginning of that table.
     ensures begun { OnErr result ((O.took out.new ≡ O.took out.old) ⊎
-        ((a : AskedMerge (F.holds files.now) asked.now) ×
+        ((a : AskedMerge (W.files world.now) asked.now) ×
         BeganText (O.took out.old) (O.took out.new) (merged_text a.made))) }
-    ensures errors { IfErr result (EndsMerge (F.holds files.now) (F.lacks files.now) asked.now
+    ensures errors { IfErr result (EndsMerge (W.files world.now) asked.now
         (HasFailed O.failures O.is_stuck out.old out.new)) }
 {
-    let tables = tables_in_order(files, alloc, &asked.tables)?;
+    let tables = tables_in_order(world, alloc, &asked.tables)?;
     let table = put_merged(alloc, tables, out)?;
     out.hand_on()?;
     // What was asked for is out.
-    tell_merged(&table, messages);
+    tell_merged(&table, world);
     Ok(hunt_status(asked.fail_on, &table.rows))
 }
 

@@ -9,7 +9,7 @@ ghost use Rattle.program_files.specs.declared.exit_status.ExitStatus.TheVariants
 use crate::repeating::tell_plan;
 use command_line::Plan;
 use host_io::{RunError, put_all};
-use program_files::{AskedPlan, CommandFailure, ExitStatus, Messages, Output, family_plan};
+use program_files::{AskedPlan, CommandFailure, ExitStatus, Output, World, family_plan};
 use round_planner::Family;
 use round_schedule::MOST_HARTS;
 use std::alloc::Global;
@@ -20,11 +20,11 @@ use std::alloc::Global;
 /// # Errors
 ///
 /// `HartsOutOfRange`, `OutOfMemory` and `SinkFailed`.
-pub fn plan_command<O: Output, M: Messages>(
+pub fn plan_command<W: World, O: Output>(
     alloc: Global,
+    world: &W,
     asked: &Plan,
     out: &mut O,
-    messages: &M,
 ) -> Result<ExitStatus, CommandFailure>
     // All that was printed is the text of the plan that the line asks for.
     ensures plans { IfOk result (λ status. (text : List ℕ) × IsAskedPlan asked.now text ×
@@ -41,7 +41,7 @@ pub fn plan_command<O: Output, M: Messages>(
     let plan = asked_plan(alloc, asked)?;
     put_all(out, plan.text.as_slice())?;
     out.hand_on()?;
-    tell_plan(asked, plan.budget, messages);
+    tell_plan(asked, plan.budget, world);
     Ok(ExitStatus::Done)
 }
 

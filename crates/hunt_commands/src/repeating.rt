@@ -7,7 +7,7 @@ use machine::Unobserved;
 use pages::OutOfMemory;
 use plan_hunt::{HartEnding, Row};
 use program_files::{
-    AskedPlan, Messages, ProgramFiles, family_plan, guest_files, needed_rounds, settings_of,
+    AskedPlan, ProgramFiles, World, family_plan, guest_files, needed_rounds, settings_of,
 };
 use round_planner::{Family, Plan};
 use round_schedule::MOST_HARTS;
@@ -27,21 +27,19 @@ pub(crate) fn ending_line_of(alloc: Global, asked: &Hunt<'_>) -> Result<String, 
 
 /// Says on standard error, for each ending of a table, the line that runs the program by its first plan, or that writes its first
 /// execution.
-pub(crate) fn tell_endings<M: Messages, R: Threads + Wait + Sync>(
+pub(crate) fn tell_endings<W: World, R: Threads + Wait + Sync>(
     threads: &R,
     alloc: Global,
     asked: &Hunt<'_>,
     files: &ProgramFiles,
     rows: &[Row],
-    messages: &M,
+    world: &W,
 ) -> Result<(), AllocError> {
     let seed = asked.search.seed;
     for (index, row) in rows.iter().enumerate() {
         let program = line_of_row(threads, alloc, asked, files, row)?;
         let (number, first) = (index.saturating_add(1), row.first);
-        messages.tell(format_args!(
-            "ending {number}: {program} --plan-number {first} --seed {seed}"
-        ));
+        world.tell(format_args!("ending {number}: {program} --plan-number {first} --seed {seed}"));
     }
     Ok(())
 }
@@ -93,7 +91,7 @@ fn rounds_for<R: Threads + Wait + Sync>(
 }
 
 /// The same of a table that was merged, which doesn't know the program's file nor all options of the hunts, and where harts loop or run on.
-pub(crate) fn tell_merged<M: Messages>(table: &Table, messages: &M) {
+pub(crate) fn tell_merged<W: World>(table: &Table, world: &W) {
     let seed = table.header.seed;
     let (command, weak) = if table.header.is_weak {
         ("execution", " --weak")
@@ -103,16 +101,16 @@ pub(crate) fn tell_merged<M: Messages>(table: &Table, messages: &M) {
     for (index, row) in table.rows.iter().enumerate() {
         let (number, first) = (index.saturating_add(1), row.first);
         let harts = row.ending.stops().len();
-        messages.tell(format_args!(
+        world.tell(format_args!(
             "ending {number}: dethart {command} IMAGE --harts {harts}{weak} --plan-number {first} --seed {seed} with the hunts' other options"
         ));
         if row.ending.stops().contains(&HartEnding::Loops) {
-            messages.tell(format_args!(
+            world.tell(format_args!(
                 "ending {number}: a hart loops: it runs for ever under this plan"
             ));
         }
         if row.ending.stops().contains(&HartEnding::Runs) {
-            messages.tell(format_args!(
+            world.tell(format_args!(
                 "ending {number}: a hart runs on: what it does after the last round isn't known"
             ));
         }
@@ -120,28 +118,28 @@ pub(crate) fn tell_merged<M: Messages>(table: &Table, messages: &M) {
 }
 
 /// Says on standard error how far executions were followed that still ran then, if there are some.
-pub(crate) fn tell_weak_running<M: Messages>(asked: &Hunt<'_>, rows: &[Row], messages: &M) {
+pub(crate) fn tell_weak_running<W: World>(asked: &Hunt<'_>, rows: &[Row], world: &W) {
     let runs = |row: &Row| row.ending.stops().contains(&HartEnding::Runs);
     if asked.weak && rows.iter().any(runs) {
-        tell_bounds(asked.steps, asked.search.program.rounds, messages);
+        tell_bounds(asked.steps, asked.search.program.rounds, world);
     }
 }
 
 /// Says on standard error how far executions were followed.
-pub fn tell_bounds<M: Messages>(steps: u32, rounds: u32, messages: &M) {
-    messages.tell(format_args!(
+pub fn tell_bounds<W: World>(steps: u32, rounds: u32, world: &W) {
+    world.tell(format_args!(
         "running: an execution was followed up to --steps {steps} and --rounds {rounds}, and what harts do then isn't known"
     ));
 }
 
 /// Says on standard error the budget of the plan that was printed, and the line that runs the program by it, once it is in a file.
-pub(crate) fn tell_shrunk<M: Messages, R: Threads + Wait + Sync>(
+pub(crate) fn tell_shrunk<W: World, R: Threads + Wait + Sync>(
     threads: &R,
     alloc: Global,
     asked: &Shrink<'_>,
     files: &ProgramFiles,
     plan: &Plan,
-    messages: &M,
+    world: &W,
 ) -> Result<(), OutOfMemory> {
     let (program, budget) = (&asked.search.program, plan.budget());
     let asked_plan = AskedPlan {
@@ -151,14 +149,14 @@ pub(crate) fn tell_shrunk<M: Messages, R: Threads + Wait + Sync>(
     };
     let rounds = rounds_for(threads, alloc, program, files, &asked_plan);
     let line = line_of(alloc, "run", program, rounds)?;
-    messages.tell(format_args!("budget {budget}\n{line} --plan FILE --budget {budget}"));
+    world.tell(format_args!("budget {budget}\n{line} --plan FILE --budget {budget}"));
     Ok(())
 }
 
 /// Says on standard error the budget of a plan of the family, and the line that runs any program by it.
-pub(crate) fn tell_plan<M: Messages>(asked: &command_line::Plan, budget: u32, messages: &M) {
+pub(crate) fn tell_plan<W: World>(asked: &command_line::Plan, budget: u32, world: &W) {
     let harts = asked.harts;
-    messages.tell(format_args!(
+    world.tell(format_args!(
         "budget {budget}\ndethart run IMAGE --harts {harts} --plan FILE --budget {budget}"
     ));
 }

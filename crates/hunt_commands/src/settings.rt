@@ -8,7 +8,7 @@ use hunt_table::{Fingerprint, Header};
 use hunter::HuntSettings;
 use plan_hunt::Until;
 use program_files::{
-    Messages, NamedBytes, ProgramFiles, format_of, named_bytes, seen_ranges, tell_of_decimals,
+    NamedBytes, ProgramFiles, World, format_of, named_bytes, seen_ranges, tell_of_decimals,
 };
 use std::alloc::{AllocError, Global};
 
@@ -37,8 +37,8 @@ pub fn named_in(
 }
 
 /// Says on standard error how a decimal address was read that would be one of the image in hexadecimal, too.
-pub fn tell_decimals<M: Messages>(search: &Search<'_>, files: &ProgramFiles, messages: &M) {
-    tell_of_decimals(messages, &files.image, search.program.flat, &search.seen);
+pub fn tell_decimals<W: World>(search: &Search<'_>, files: &ProgramFiles, world: &W) {
+    tell_of_decimals(world, &files.image, search.program.flat, &search.seen);
 }
 
 /// What the line says of a hunt by so many plans from a first one on, with these bytes, which the line names, to be looked at when a

@@ -10,10 +10,9 @@ use crate::repeating::tell_shrunk;
 use crate::settings::{named_in, settings_of, tell_decimals};
 use command_line::Shrink;
 use host_io::put_all;
-use hunter::{ShrinkObserver, shrink};
+use hunter::shrink;
 use program_files::{
-    CommandFailure, ExitStatus, Files, Messages, NamedBytes, Output, ProgramFiles, ProgressLine,
-    read_program,
+    CommandFailure, ExitStatus, NamedBytes, Output, ProgramFiles, ProgressLine, World, read_program,
 };
 use round_planner::Plan;
 use std::alloc::Global;
@@ -27,49 +26,41 @@ use std::thread::Threads;
 ///
 /// `File` where one can't be read, and `NoSpurious`; `Hunt` for the settings and then for the image; then `Naming` for bytes that can't be
 /// looked at; `SinkFailed`; the refusal of memory at any time.
-pub fn shrink_command<
-    F: Files,
-    O: Output,
-    M: Messages,
-    P: ShrinkObserver + ProgressLine,
-    R: Threads + Wait + Sync,
->(
+#[inline(never)]
+pub fn shrink_command<W: World, O: Output, R: Threads + Wait + Sync>(
     threads: &R,
     alloc: Global,
-    files: &F,
+    world: &W,
     asked: &Shrink<'_>,
-    progress: &mut P,
     out: &mut O,
-    messages: &M,
 ) -> Result<ExitStatus, CommandFailure>
     // All that was printed is the text of a plan that the search of the line leads to.
-    ensures shrinks { IfOk result (λ status.
-        (a : AskedShrink (F.holds files.now) (F.begins files.now) asked.now) ×
+    ensures shrinks { IfOk result (λ status. (a : AskedShrink (W.files world.now) asked.now) ×
         (O.took out.new ≡ O.took out.old ++ shrunk_text a.made) × O.is_out out.new ×
         (status ≡ statuses.Done)) }
     // Else nothing was printed, or a beginning of such a text.
     ensures begun { OnErr result ((O.took out.new ≡ O.took out.old) ⊎
-        ((a : AskedShrink (F.holds files.now) (F.begins files.now) asked.now) ×
+        ((a : AskedShrink (W.files world.now) asked.now) ×
         BeganText (O.took out.old) (O.took out.new) (shrunk_text a.made))) }
     // After a refusal for another cause than memory and the output nothing was printed.
     ensures unprinted { IfErr result (λ f.
         IsUnprinted (failure_number f) (O.took out.old) (O.took out.new)) }
-    ensures errors { IfErr result (EndsShrink (F.holds files.now) (F.begins files.now)
-        (F.lacks files.now) asked.now
+    ensures errors { IfErr result (EndsShrink (W.files world.now) asked.now
         (HasFailed O.failures O.is_stuck out.old out.new)) }
 {
-    let given = read_program(files, alloc, &asked.search.program)?;
-    let plan = shrink_given(threads, alloc, &given, asked, progress)?;
+    let mut progress = world.progress(asked.search.program.progress, 0, 1, None);
+    let given = read_program(world, alloc, &asked.search.program)?;
+    let plan = shrink_given(threads, alloc, &given, asked, &mut progress)?;
     put_plan(alloc, &plan, out)?;
     out.hand_on()?;
     // What was asked for is out.
-    let _untold = tell_shrunk(threads, alloc, asked, &given, &plan, messages);
-    tell_decimals(&asked.search, &given, messages);
+    let _untold = tell_shrunk(threads, alloc, asked, &given, &plan, world);
+    tell_decimals(&asked.search, &given, world);
     Ok(ExitStatus::Done)
 }
 
 /// Looks for a smaller plan with what the files gave.
-fn shrink_given<P: ShrinkObserver + ProgressLine, R: Threads + Wait + Sync>(
+fn shrink_given<P: ProgressLine, R: Threads + Wait + Sync>(
     threads: &R,
     alloc: Global,
     files: &ProgramFiles,

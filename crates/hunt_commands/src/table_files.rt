@@ -4,7 +4,7 @@ ghost use Rattle.hunt_commands.specs.Merges.{AreRead, AreTables, HoldsTable, IsR
 
 use host_io::RunError;
 use hunt_table::{ReadError, Table, read_table};
-use program_files::{CommandFailure, Files, read_file};
+use program_files::{CommandFailure, World, read_file};
 use std::alloc::{AllocError, Global};
 
 /// A table, and the file that has it.
@@ -23,35 +23,33 @@ pub struct TableFile<'a> {
 /// # Errors
 ///
 /// `File` where one can't be read, and `NotATable`, each for the first such file of the line; the refusal of memory at any time.
-pub(crate) fn tables_in_order<'a, F: Files>(
-    files: &F,
+pub(crate) fn tables_in_order<'a, W: World>(
+    world: &W,
     alloc: Global,
     paths: &[&'a str],
 ) -> Result<Vec<TableFile<'a>>, CommandFailure>
     ensures tables { IfOk result (λ v.
-        AreTables (F.holds files.now) (map (λ s. s.now) paths.now) v.items) }
-    ensures errors { IfErr result (IsReadEnd (F.holds files.now) (F.lacks files.now)
-        (map (λ s. s.now) paths.now)) }
+        AreTables (W.files world.now) (map (λ s. s.now) paths.now) v.items) }
+    ensures errors { IfErr result (IsReadEnd (W.files world.now) (map (λ s. s.now) paths.now)) }
 {
-    let mut tables = read_tables(files, alloc, paths)?;
+    let mut tables = read_tables(world, alloc, paths)?;
     tables.sort_by_key(|file| file.table.header.first)?;
     Ok(tables)
 }
 
 /// Reads the tables of the files of some paths.
-fn read_tables<'a, F: Files>(
-    files: &F,
+fn read_tables<'a, W: World>(
+    world: &W,
     alloc: Global,
     paths: &[&'a str],
 ) -> Result<Vec<TableFile<'a>>, CommandFailure>
     ensures read { IfOk result (λ v.
-        AreRead (F.holds files.now) (map (λ s. s.now) paths.now) v.items) }
-    ensures errors { IfErr result (IsReadEnd (F.holds files.now) (F.lacks files.now)
-        (map (λ s. s.now) paths.now)) }
+        AreRead (W.files world.now) (map (λ s. s.now) paths.now) v.items) }
+    ensures errors { IfErr result (IsReadEnd (W.files world.now) (map (λ s. s.now) paths.now)) }
 {
     let mut tables = Vec::new(alloc);
     for path in paths {
-        tables.push(read_table_of(files, alloc, path)?)?;
+        tables.push(read_table_of(world, alloc, path)?)?;
     }
     Ok(tables)
 }
@@ -61,16 +59,16 @@ fn read_tables<'a, F: Files>(
 /// # Errors
 ///
 /// `File` where it can't be read, `NotATable` where it has no table; the refusal of memory at any time.
-pub fn read_table_of<'a, F: Files>(
-    files: &F,
+pub fn read_table_of<'a, W: World>(
+    world: &W,
     alloc: Global,
     path: &'a str,
 ) -> Result<TableFile<'a>, CommandFailure>
     ensures path { IfOk result (λ f. f.path.now ≡ path.now) }
-    ensures held { IfOk result (HoldsTable (F.holds files.now)) }
-    ensures errors { IfErr result (IsUntabled (F.holds files.now) (F.lacks files.now) path.now) }
+    ensures held { IfOk result (HoldsTable (W.files world.now)) }
+    ensures errors { IfErr result (IsUntabled (W.files world.now) path.now) }
 {
-    let text = read_file(files, alloc, path)?;
+    let text = read_file(world, alloc, path)?;
     match read_table(alloc, &text) {
         Ok(table) => Ok(TableFile { path, text, table }),
         Err(ReadError::NotATable) => {

@@ -12,10 +12,11 @@ ghost use Rattle.program_files.specs.Failures.{IsUnprinted};
 ghost use Rattle.weak_hunter.specs.Refusals.{weak_hunt_number};
 ghost use Rattle.weak_hunter.specs.declared.error.WeakHuntError.TheVariants.{Hunt};
 
+use crate::finds::Finds;
 use crate::weak_hunts::WeakHunts;
 use host_io::Sink;
 use hunter::{HuntSettings, hunt};
-use plan_hunt::{HuntObserver, Tally};
+use plan_hunt::Tally;
 use program_files::ProgramFiles;
 use std::alloc::Global;
 use std::sync::Wait;
@@ -23,16 +24,17 @@ use std::thread::Threads;
 use weak_hunter::WeakHuntError;
 
 /// Hunts by plans or, where the table is to be a weak one, by executions of so many steps, and writes the table of endings. Answers it.
-pub(crate) fn write_rows<S: Sink, W: WeakHunts, O: HuntObserver + Sync, R: Threads + Wait + Sync>(
+pub(crate) fn write_rows<S: Sink, W: WeakHunts + Sync, R: Threads + Wait + Sync>(
     threads: &R,
     alloc: Global,
-    weakly: &W,
     files: &ProgramFiles,
     settings: &HuntSettings,
     steps: u32,
-    observer: &O,
+    finds: &Finds<'_, W::Progress, W>,
     out: &mut S,
 ) -> Result<Tally, WeakHuntError>
+where
+    W::Progress: Sync,
     ensures hunts { IfOk result (λ t.
         IsTableBy W.hunts steps settings.now.header.is_weak settings.now
         files.now.image.items files.now.input.items t.done t.rows.items ×
@@ -58,9 +60,10 @@ pub(crate) fn write_rows<S: Sink, W: WeakHunts, O: HuntObserver + Sync, R: Threa
 {
     let (image, input) = (files.image.as_slice(), files.input.as_slice());
     if settings.header.is_weak {
-        return weakly.hunt_weakly(threads, alloc, image, input, settings, steps, out);
+        let world = finds.world;
+        return world.hunt_weakly(threads, alloc, image, input, settings, steps, finds, out);
     }
-    match hunt(threads, alloc, image, input, settings, observer, out) {
+    match hunt(threads, alloc, image, input, settings, finds, out) {
         Ok(tally) => Ok(tally),
         Err(error) => Err(WeakHuntError::Hunt(error)),
     }

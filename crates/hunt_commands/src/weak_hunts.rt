@@ -3,33 +3,36 @@ ghost use Rattle.std.specs.Prelude.{◌≡◌, ◌⊎◌, ◌<◌, ◌++◌, ℕ
 ghost use Rattle.host_io.specs.Taken.{BeganText};
 ghost use Rattle.host_io.specs.declared.load_error.LoadError.{LoadError as ImageCause};
 ghost use Rattle.host_io.specs.declared.error.RunError.TheVariants as refusals;
+ghost use Rattle.hunt_commands.specs.Relations.{HuntRelation};
 ghost use Rattle.hunt_table.specs.Text.{table_text, with_count};
 ghost use Rattle.hunter.specs.Hunts.{IsImageCause, has_bad_range, hunt_fault};
 ghost use Rattle.hunter.specs.declared.error.HuntError.{HuntError as Refusal};
 ghost use Rattle.hunter.specs.declared.error.HuntError.TheVariants as hunting;
-ghost use Rattle.hunter.specs.declared.settings.HuntSettings.{HuntSettings as AskedFor};
 ghost use Rattle.plan_hunt.specs.declared.row.Row.{Row as TableRow};
 ghost use Rattle.program_files.specs.Failures.{IsUnprinted};
 ghost use Rattle.weak_hunter.specs.Refusals.{weak_hunt_number};
 ghost use Rattle.weak_hunter.specs.WeakHunts.{IsWeakReason, IsWeaklyHunted};
 ghost use Rattle.weak_hunter.specs.declared.error.WeakHuntError.TheVariants.{Hunt};
 
+use crate::finds::Finds;
 use host_io::Sink;
 use hunter::HuntSettings;
 use plan_hunt::Tally;
+use program_files::World;
 use std::alloc::Global;
 use std::sync::Wait;
 use std::thread::Threads;
 use weak_hunter::WeakHuntError;
 
-/// Who makes weak hunts. No definition says what so many steps of an execution lead to: so that is a relation, which a command can only
-/// get by a call with these steps.
-pub trait WeakHunts {
+/// A world that makes weak hunts. No definition says what so many steps of an execution lead to: so that is a relation, which a command can
+/// only get by a call with these steps.
+pub trait WeakHunts: World + Sized {
     /// The rows are the table that a hunt by these settings makes of an image and an input, in executions of so many steps, where it is over
     /// after so many of them.
-    ghost hunts: { AskedFor → List ℕ → List ℕ → ℕ → ℕ → List TableRow → Type 0 };
+    ghost hunts: { HuntRelation };
 
-    /// Hunts, writes the table of the endings, and answers it.
+    /// Hunts, writes the table of the endings, and answers it. The finds are told how far that is: threads are lent none of a type that a method
+    /// is given.
     ///
     /// # Errors
     ///
@@ -42,6 +45,7 @@ pub trait WeakHunts {
         input: &[u8],
         settings: &HuntSettings,
         steps: u32,
+        finds: &Finds<'_, Self::Progress, Self>,
         out: &mut S,
     ) -> Result<Tally, WeakHuntError>
         requires sync { IsSync R.row }

@@ -4,9 +4,9 @@ use Rattle.command_line.specs.declared.settings.Compare.{Compare}
 use Rattle.hunt_comparison.specs.Compares.{EndsComparison, GivenTables, IsComparedEnd}
 use Rattle.program_files.specs.declared.failure.CommandFailure.{CommandFailure}
 use Rattle.program_files.specs.declared.failure.CommandFailure.TheVariants as failures
-use Rattle.program_files.specs.declared.files.FileFault.{FileFault}
+use Rattle.program_files.specs.Relations.{FileRelations}
 
-pub ends_given : (holds : List ℕ → List ℕ → Type 0) (lacks : List ℕ → FileFault → Type 0) (asked : Compare) (failed : Type 0) (given : GivenTables holds asked)
-    (f : CommandFailure) → IsComparedEnd given.old.table given.new.table failed f → EndsComparison holds lacks asked failed f
-ends_given holds lacks asked failed given (failures.Unlike why) ended = inr (why, refl, given, ended)
-ends_given holds lacks asked failed given failure ended = inl (inr (inr ended))
+pub ends_given : (files : FileRelations) (asked : Compare) (failed : Type 0) (given : GivenTables files asked)
+    (f : CommandFailure) → IsComparedEnd given.old.table given.new.table failed f → EndsComparison files asked failed f
+ends_given files asked failed given (failures.Unlike why) ended = inr (why, refl, given, ended)
+ends_given files asked failed given failure ended = inl (inr (inr ended))

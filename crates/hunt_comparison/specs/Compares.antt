@@ -1,5 +1,4 @@
--- The comparison that `compare` prints, and why it ends without it. `holds` says what files hold, `lacks` that
--- one couldn't be read for a fault, and `failed` that the output failed.
+-- The comparison that `compare` prints, and why it ends without it. `failed` says that the output failed.
 use Rattle.std.specs.Prelude.{◌≡◌, ◌⊎◌, List, ℕ}
 use Rattle.command_line.specs.declared.settings.Compare.{Compare}
 use Rattle.hunt_commands.specs.Merges.{HoldsTable, IsUntabled}
@@ -13,16 +12,16 @@ use Rattle.hunt_comparison.specs.declared.twins.Compared.{Compared}
 use Rattle.hunt_table.specs.declared.table.Table.{Table}
 use Rattle.program_files.specs.declared.reasons.Unlike.{Unlike}
 use Rattle.program_files.specs.Failures.{IsCutEnd}
-use Rattle.program_files.specs.declared.files.FileFault.{FileFault}
+use Rattle.program_files.specs.Relations.{FileRelations}
 
 -- the files of the paths held these tables
-pub record GivenTables (holds : List ℕ → List ℕ → Type 0) (asked : Compare) : Type 0 where
+pub record GivenTables (files : FileRelations) (asked : Compare) : Type 0 where
   pub old : TableFile
   pub new : TableFile
   pub of_old : old.path.now ≡ asked.old.now
   pub of_new : new.path.now ≡ asked.new.now
-  pub old_held : HoldsTable holds old
-  pub new_held : HoldsTable holds new
+  pub old_held : HoldsTable files old
+  pub new_held : HoldsTable files new
 
 -- the rows of each of two tables, with their twins in the other one
 pub record ComparedTables (old new : Table) : Type 0 where
@@ -33,8 +32,8 @@ pub record ComparedTables (old new : Table) : Type 0 where
   pub of_new : AreCompared new.rows.items old.rows.items news
 
 -- the comparison that a line asks for
-pub record AskedComparison (holds : List ℕ → List ℕ → Type 0) (asked : Compare) : Type 0 where
-  pub given : GivenTables holds asked
+pub record AskedComparison (files : FileRelations) (asked : Compare) : Type 0 where
+  pub given : GivenTables files asked
   pub made : ComparedTables given.old.table given.new.table
 
 -- its text
@@ -42,14 +41,14 @@ abbrev pub compared_text : {old new : Table} → ComparedTables old new → List
 compared_text {old} {new} c = comparison_text old.header new.header c.olds c.news
 
 -- the table of a path wasn't read, or the output failed, or memory is refused
-abbrev pub IsUnread : (List ℕ → List ℕ → Type 0) → (List ℕ → FileFault → Type 0) → Compare → Type 0 → CommandFailure → Type 0
-IsUnread holds lacks asked failed failure =
-    IsUntabled holds lacks asked.old.now failure ⊎ IsUntabled holds lacks asked.new.now failure ⊎ IsCutEnd failed failure
+abbrev pub IsUnread : FileRelations → Compare → Type 0 → CommandFailure → Type 0
+IsUnread files asked failed failure =
+    IsUntabled files asked.old.now failure ⊎ IsUntabled files asked.new.now failure ⊎ IsCutEnd failed failure
 
 -- why the command ends without its comparison
-abbrev pub EndsComparison : (List ℕ → List ℕ → Type 0) → (List ℕ → FileFault → Type 0) → Compare → Type 0 → CommandFailure → Type 0
-EndsComparison holds lacks asked failed failure = IsUnread holds lacks asked failed failure
-    ⊎ ((why : Unlike) × (failure ≡ failures.Unlike why) × (g : GivenTables holds asked) × IsUnlike why g.old.table g.new.table)
+abbrev pub EndsComparison : FileRelations → Compare → Type 0 → CommandFailure → Type 0
+EndsComparison files asked failed failure = IsUnread files asked failed failure
+    ⊎ ((why : Unlike) × (failure ≡ failures.Unlike why) × (g : GivenTables files asked) × IsUnlike why g.old.table g.new.table)
 
 -- the same where both tables were read
 abbrev pub IsComparedEnd : Table → Table → Type 0 → CommandFailure → Type 0

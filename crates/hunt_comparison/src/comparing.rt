@@ -11,7 +11,7 @@ use crate::writing::write_comparison;
 use command_line::Compare;
 use hunt_commands::read_table_of;
 use hunt_table::Table;
-use program_files::{CommandFailure, ExitStatus, Files, Output};
+use program_files::{CommandFailure, ExitStatus, Output, World};
 use std::alloc::Global;
 
 /// Compares the tables of two files, as of an old and of a new build of a program, and prints the endings that only one of them has, and those
@@ -21,26 +21,25 @@ use std::alloc::Global;
 ///
 /// `File` and `NotATable` where one can't be read, the old one before the new one; then `Unlike`; the refusal of memory at any time, and
 /// `SinkFailed` at last.
-pub fn compare_command<F: Files, O: Output>(
+pub fn compare_command<W: World, O: Output>(
     alloc: Global,
-    files: &F,
+    world: &W,
     asked: &Compare<'_>,
     out: &mut O,
 ) -> Result<ExitStatus, CommandFailure>
     // All that was printed is the comparison of the tables in the files, and the status is 0 where these have the same endings, and else 4.
-    ensures compares { IfOk result (λ status.
-        (a : AskedComparison (F.holds files.now) asked.now) ×
+    ensures compares { IfOk result (λ status. (a : AskedComparison (W.files world.now) asked.now) ×
         (O.took out.new ≡ O.took out.old ++ compared_text a.made) × O.is_out out.new ×
         (status ≡ compare_status a.made.olds a.made.news)) }
     // Else nothing was printed, or a beginning of that.
     ensures begun { OnErr result ((O.took out.new ≡ O.took out.old) ⊎
-        ((a : AskedComparison (F.holds files.now) asked.now) ×
+        ((a : AskedComparison (W.files world.now) asked.now) ×
         BeganText (O.took out.old) (O.took out.new) (compared_text a.made))) }
-    ensures errors { IfErr result (EndsComparison (F.holds files.now) (F.lacks files.now) asked.now
+    ensures errors { IfErr result (EndsComparison (W.files world.now) asked.now
         (HasFailed O.failures O.is_stuck out.old out.new)) }
 {
-    let old_file = read_table_of(files, alloc, asked.old)?;
-    let new_file = read_table_of(files, alloc, asked.new)?;
+    let old_file = read_table_of(world, alloc, asked.old)?;
+    let new_file = read_table_of(world, alloc, asked.new)?;
     let status = put_compared(alloc, &old_file.table, &new_file.table, out)?;
     out.hand_on()?;
     Ok(status)

@@ -18,7 +18,7 @@ use Rattle.program_files.specs.declared.failure.CommandFailure.{CommandFailure}
 use Rattle.program_files.specs.declared.failure.CommandFailure.TheVariants.{Naming, NoRounds, Refused}
 use Rattle.past_commands.specs.declared.past.Past.{Past}
 use Rattle.past_commands.specs.declared.past.Past.TheVariants.{Execution, Recording}
-use Rattle.program_files.specs.declared.files.FileFault.{FileFault}
+use Rattle.program_files.specs.Relations.{FileRelations}
 use Rattle.recording.specs.Recorded.{Recorded}
 use Rattle.round_schedule.specs.Bounds.{AreNoWorkers, AreWorkers}
 use Rattle.replayer.specs.Refusals.{RefusedInOrder}
@@ -90,11 +90,11 @@ EndsWatchOf (Recording r) asked f = EndsWatching r asked f
 EndsWatchOf (Execution text) asked f = EndsExecutionWatch text.items asked f
 
 -- why `replay` ends without an answer: nothing was read of the file, what it holds has none, or the output failed
-abbrev pub EndsReplay : (List ℕ → List ℕ → List ℕ → List ℕ → Type 0) → (List ℕ → FileFault → Type 0) → Replay → Type 0 → CommandFailure → Type 0
-EndsReplay either lacks asked failed f =
-    EndsReading either lacks asked.recording.now f ⊎ IsOutput failed f ⊎ ((past : Past) × HoldsPast either asked.recording.now past × EndsReplayOf past asked f)
+abbrev pub EndsReplay : FileRelations → Replay → Type 0 → CommandFailure → Type 0
+EndsReplay files asked failed f =
+    EndsReading files asked.recording.now f ⊎ IsOutput failed f ⊎ ((past : Past) × HoldsPast files asked.recording.now past × EndsReplayOf past asked f)
 
 -- and `watch`
-abbrev pub EndsWatch : (List ℕ → List ℕ → List ℕ → List ℕ → Type 0) → (List ℕ → FileFault → Type 0) → Watch → Type 0 → CommandFailure → Type 0
-EndsWatch either lacks asked failed f =
-    EndsReading either lacks asked.recording.now f ⊎ IsOutput failed f ⊎ (f ≡ out_of_memory) ⊎ ((past : Past) × HoldsPast either asked.recording.now past × EndsWatchOf past asked f)
+abbrev pub EndsWatch : FileRelations → Watch → Type 0 → CommandFailure → Type 0
+EndsWatch files asked failed f =
+    EndsReading files asked.recording.now f ⊎ IsOutput failed f ⊎ (f ≡ out_of_memory) ⊎ ((past : Past) × HoldsPast files asked.recording.now past × EndsWatchOf past asked f)

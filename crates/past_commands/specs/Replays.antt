@@ -11,6 +11,7 @@ use Rattle.past_commands.specs.declared.past.Past.TheVariants.{Execution, Record
 use Rattle.past_commands.specs.declared.question.Question.{Question}
 use Rattle.past_commands.specs.declared.telling.Told.{Told}
 use Rattle.program_files.specs.declared.exit_status.ExitStatus.TheVariants.{Done}
+use Rattle.program_files.specs.Relations.{FileRelations}
 use Rattle.recording.specs.Recorded.{Recorded}
 use Rattle.round_schedule.specs.Bounds.{AreWorkers}
 use Rattle.replayer.specs.Replayed.{IsPlanFor, IsVerdict, start_of}
@@ -51,8 +52,8 @@ abbrev pub IsReplayAnswer : Past → Replay → Answer → Type 0
 IsReplayAnswer (Recording r) asked a = IsRecordingAnswer r asked a
 IsReplayAnswer (Execution text) asked a = IsExecutionAnswer text.items asked a
 
-pub record AskedReplay (either : List ℕ → List ℕ → List ℕ → List ℕ → Type 0) (asked : Replay) : Type 0 where
+pub record AskedReplay (files : FileRelations) (asked : Replay) : Type 0 where
   pub past : Past
-  pub holds : HoldsPast either asked.recording.now past
+  pub holds : HoldsPast files asked.recording.now past
   pub answer : Answer
   pub is_answer : IsReplayAnswer past asked answer

@@ -19,6 +19,7 @@ use Rattle.past_commands.specs.declared.past.Past.TheVariants.{Execution, Record
 use Rattle.past_commands.specs.declared.watched.Hits.{Hits as Found}
 use Rattle.past_commands.specs.declared.watched.Watched.{Watched}
 use Rattle.past_commands.specs.declared.watched.Watched.TheVariants.{Hits, Refused}
+use Rattle.program_files.specs.Relations.{FileRelations}
 use Rattle.recording.specs.Recorded.{Recorded}
 use Rattle.run_events.specs.Hits.{is_chosen, of_rounds}
 use Rattle.round_schedule.specs.Bounds.{AreWorkers}
@@ -130,8 +131,8 @@ abbrev pub IsWatch : Past → Watch → Watched → Type 0
 IsWatch (Recording r) asked w = IsRecordingWatch r asked w
 IsWatch (Execution text) asked w = IsExecutionWatch text.items asked w
 
-pub record AskedWatch (either : List ℕ → List ℕ → List ℕ → List ℕ → Type 0) (asked : Watch) : Type 0 where
+pub record AskedWatch (files : FileRelations) (asked : Watch) : Type 0 where
   pub past : Past
-  pub holds : HoldsPast either asked.recording.now past
+  pub holds : HoldsPast files asked.recording.now past
   pub watched : Watched
   pub is_watch : IsWatch past asked watched

@@ -4,7 +4,6 @@
 mod answer;
 mod checked;
 mod executions;
-mod files;
 mod looking;
 mod naming;
 mod noting;
@@ -20,7 +19,6 @@ mod watching;
 
 pub use answer::Answer;
 pub use executions::{refuse_rounds, refuse_workers};
-pub use files::PastFiles;
 pub use naming::access_ranges;
 pub use past::{Past, read_past};
 pub use replaying::replay_command;

@@ -2,9 +2,8 @@
 ghost use Rattle.std.specs.Prelude.{IfErr, IfOk};
 ghost use Rattle.past_commands.specs.Past.{EndsReading, HoldsPast};
 
-use crate::files::PastFiles;
 use execution_commands::is_execution;
-use program_files::{CommandFailure, unreadable};
+use program_files::{CommandFailure, World, unreadable};
 use recording::{Recording, read_recording};
 use std::alloc::Global;
 
@@ -24,11 +23,11 @@ pub enum Past {
 ///
 /// `File` where it can't be read, or is an execution that is too large; `Unread` where it begins as neither, or is no recording; the refusal of
 /// memory.
-pub fn read_past<F: PastFiles>(files: &F, alloc: Global, path: &str) -> Result<Past, CommandFailure>
-    ensures holds { IfOk result (HoldsPast (F.either files.now) path.now) }
-    ensures errors { IfErr result (EndsReading (F.either files.now) (F.lacks files.now) path.now) }
+pub fn read_past<W: World>(world: &W, alloc: Global, path: &str) -> Result<Past, CommandFailure>
+    ensures holds { IfOk result (HoldsPast (W.files world.now) path.now) }
+    ensures errors { IfErr result (EndsReading (W.files world.now) path.now) }
 {
-    let text = match files.read_either(path, b"RVDETREC", b"executio") {
+    let text = match world.read_either(path, b"RVDETREC", b"executio") {
         Ok(text) => text,
         Err(fault) => return Err(unreadable(alloc, path, fault)),
     };

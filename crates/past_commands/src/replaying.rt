@@ -7,7 +7,6 @@ ghost use Rattle.past_commands.specs.Refused.{EndsReplay, EndsReplayOf, EndsRepl
 ghost use Rattle.past_commands.specs.Replays.{AskedReplay, IsHartAnswer, IsRecordingAnswer, IsReplayAnswer, IsVerdictAnswer};
 
 use crate::answer::{Answer, verdict_answer};
-use crate::files::PastFiles;
 use crate::looking::replay_execution;
 use crate::noting::tell_of_seen;
 use crate::past::{Past, read_past};
@@ -16,10 +15,8 @@ use crate::refusing::refused_for;
 use crate::telling::{tell, told_line};
 use command_line::Replay;
 use host_io::put_all;
-use machine::Observer;
 use program_files::{
-    CommandFailure, ExitStatus, Messages, NamedBytes, Output, ProgressLine, named_bytes,
-    seen_ranges,
+    CommandFailure, ExitStatus, NamedBytes, Output, ProgressLine, World, named_bytes, seen_ranges,
 };
 use recording::Recording;
 use replayer::replay_observed;
@@ -35,42 +32,36 @@ use std::thread::Threads;
 /// `File` where it can't be read; the refusals of the run; `Unread` and `NoExecution` where the file is no recording, or no execution;
 /// `NoRounds` where an execution is asked about rounds; then `Naming` for bytes that can't be looked at; `SinkFailed`; the refusal of memory at
 /// any time.
-pub fn replay_command<
-    F: PastFiles,
-    O: Output,
-    M: Messages,
-    P: Observer + ProgressLine,
-    R: Threads + Wait + Sync,
->(
+#[inline(never)]
+pub fn replay_command<W: World, O: Output, R: Threads + Wait + Sync>(
     threads: &R,
     alloc: Global,
-    files: &F,
+    world: &W,
     asked: &Replay<'_>,
-    progress: &mut P,
     out: &mut O,
-    messages: &M,
 ) -> Result<ExitStatus, CommandFailure>
     // All that was printed is the answer to what the line asks of what the file holds, and the status is that of this answer.
-    ensures answers { IfOk result (λ status. (a : AskedReplay (F.either files.now) asked.now) ×
+    ensures answers { IfOk result (λ status. (a : AskedReplay (W.files world.now) asked.now) ×
         (O.took out.new ≡ O.took out.old ++ a.answer.text) × O.is_out out.new ×
         (status ≡ a.answer.status)) }
     // Else nothing was printed, or a beginning of such an answer.
     ensures begun { OnErr result ((O.took out.new ≡ O.took out.old) ⊎
-        ((a : AskedReplay (F.either files.now) asked.now) ×
+        ((a : AskedReplay (W.files world.now) asked.now) ×
         BeganText (O.took out.old) (O.took out.new) a.answer.text)) }
     // After a refusal for another cause than memory and the output nothing was printed.
     ensures unprinted { IfErr result (λ f.
         IsUnprinted (failure_number f) (O.took out.old) (O.took out.new)) }
-    ensures errors { IfErr result (EndsReplay (F.either files.now) (F.lacks files.now) asked.now
+    ensures errors { IfErr result (EndsReplay (W.files world.now) asked.now
         (HasFailed O.failures O.is_stuck out.old out.new)) }
 {
-    let past = read_past(files, alloc, asked.recording)?;
-    let answer = replay_past(threads, alloc, &past, asked, progress)?;
+    let mut progress = world.progress(asked.progress, 0, 1, None);
+    let past = read_past(world, alloc, asked.recording)?;
+    let answer = replay_past(threads, alloc, &past, asked, &mut progress)?;
     let status = print_answer(&answer, out);
     drop(answer);
     if status.is_ok() {
         // What was asked for is out.
-        let _untold = tell_of_seen(alloc, &past, asked, messages);
+        let _untold = tell_of_seen(alloc, &past, asked, world);
     }
     drop(past);
     status
@@ -89,7 +80,7 @@ fn print_answer<O: Output>(answer: &Answer, out: &mut O) -> Result<ExitStatus, C
 }
 
 /// The answer to what a line asks of a recording or of an execution.
-fn replay_past<P: Observer + ProgressLine, R: Threads + Wait + Sync>(
+fn replay_past<P: ProgressLine, R: Threads + Wait + Sync>(
     threads: &R,
     alloc: Global,
     past: &Past,
@@ -106,7 +97,7 @@ fn replay_past<P: Observer + ProgressLine, R: Threads + Wait + Sync>(
 }
 
 /// The answer to what a line asks of a recording.
-fn replay_recording<P: Observer + ProgressLine, R: Threads + Wait + Sync>(
+fn replay_recording<P: ProgressLine, R: Threads + Wait + Sync>(
     threads: &R,
     alloc: Global,
     recorded: &Recording,
@@ -123,7 +114,7 @@ fn replay_recording<P: Observer + ProgressLine, R: Threads + Wait + Sync>(
 }
 
 /// Whether the run is the recorded one.
-fn replay_whole<P: Observer + ProgressLine, R: Threads + Wait + Sync>(
+fn replay_whole<P: ProgressLine, R: Threads + Wait + Sync>(
     threads: &R,
     alloc: Global,
     recorded: &Recording,

@@ -9,7 +9,6 @@ ghost use Rattle.round_planner.specs.Quotas.{Planned};
 ghost use Rattle.round_schedule.specs.Bounds.{AreWorkers};
 ghost use Rattle.replayer.specs.Replayed.{IsPlanFor, start_of};
 
-use crate::files::PastFiles;
 use crate::naming::{access_ranges, watched_bytes};
 use crate::noting::tell_of_watched;
 use crate::past::{Past, read_past};
@@ -18,8 +17,7 @@ use crate::refusing::refused_for;
 use crate::watched::{Hits, Watched, print_watched};
 use command_line::{Bytes, Watch};
 use host_io::RunError;
-use machine::Observer;
-use program_files::{CommandFailure, ExitStatus, Messages, Output, ProgressLine};
+use program_files::{CommandFailure, ExitStatus, Output, ProgressLine, World};
 use recording::Recording;
 use replayer::{Hit, Rounds, choose, pcs_before, watch_rounds};
 use std::alloc::Global;
@@ -33,42 +31,36 @@ use std::thread::Threads;
 ///
 /// `File` where it can't be read; the refusals of the run; `Unread` and `NoExecution` where the file is no recording, or no execution;
 /// `NoRounds` where an execution is asked about rounds; then `Naming` for a name of no object; `SinkFailed`; the refusal of memory at any time.
-pub fn watch_command<
-    F: PastFiles,
-    O: Output,
-    M: Messages,
-    P: Observer + ProgressLine,
-    R: Threads + Wait + Sync,
->(
+#[inline(never)]
+pub fn watch_command<W: World, O: Output, R: Threads + Wait + Sync>(
     threads: &R,
     alloc: Global,
-    files: &F,
+    world: &W,
     asked: &Watch<'_>,
-    progress: &mut P,
     out: &mut O,
-    messages: &M,
 ) -> Result<ExitStatus, CommandFailure>
     // All that was printed are the hits that the line asks for, or why RVWMO doesn't allow the execution, and the status is that of this.
-    ensures watches { IfOk result (λ status. (a : AskedWatch (F.either files.now) asked.now) ×
+    ensures watches { IfOk result (λ status. (a : AskedWatch (W.files world.now) asked.now) ×
         (O.took out.new ≡ O.took out.old ++ watched_text a.watched) × O.is_out out.new ×
         (status ≡ watched_status a.watched)) }
     // Else nothing was printed, or a beginning of that.
     ensures begun { OnErr result ((O.took out.new ≡ O.took out.old) ⊎
-        ((a : AskedWatch (F.either files.now) asked.now) ×
+        ((a : AskedWatch (W.files world.now) asked.now) ×
         BeganText (O.took out.old) (O.took out.new) (watched_text a.watched))) }
     // After a refusal for another cause than memory and the output nothing was printed.
     ensures unprinted { IfErr result (λ f.
         IsUnprinted (failure_number f) (O.took out.old) (O.took out.new)) }
-    ensures errors { IfErr result (EndsWatch (F.either files.now) (F.lacks files.now) asked.now
+    ensures errors { IfErr result (EndsWatch (W.files world.now) asked.now
         (HasFailed O.failures O.is_stuck out.old out.new)) }
 {
-    let past = read_past(files, alloc, asked.recording)?;
-    let watched = watch_past(threads, alloc, &past, asked, progress)?;
+    let mut progress = world.progress(asked.progress, 0, 1, None);
+    let past = read_past(world, alloc, asked.recording)?;
+    let watched = watch_past(threads, alloc, &past, asked, &mut progress)?;
     let status = hand_on_watched(alloc, &watched, out);
     drop(watched);
     if status.is_ok() {
         // What was asked for is out.
-        let _untold = tell_of_watched(alloc, &past, asked, messages);
+        let _untold = tell_of_watched(alloc, &past, asked, world);
     }
     drop(past);
     status
@@ -94,7 +86,7 @@ fn hand_on_watched<O: Output>(
 }
 
 /// What came of watching a recording or an execution.
-fn watch_past<P: Observer + ProgressLine, R: Threads + Wait + Sync>(
+fn watch_past<P: ProgressLine, R: Threads + Wait + Sync>(
     threads: &R,
     alloc: Global,
     past: &Past,
@@ -111,7 +103,7 @@ fn watch_past<P: Observer + ProgressLine, R: Threads + Wait + Sync>(
 }
 
 /// What came of watching a recording.
-fn watch_recording<P: Observer + ProgressLine, R: Threads + Wait + Sync>(
+fn watch_recording<P: ProgressLine, R: Threads + Wait + Sync>(
     threads: &R,
     alloc: Global,
     recorded: &Recording,
@@ -133,7 +125,7 @@ fn watch_recording<P: Observer + ProgressLine, R: Threads + Wait + Sync>(
 }
 
 /// The accesses to these bytes that a line asks for, with their pcs where it does.
-fn watch_bytes<P: Observer + ProgressLine, R: Threads + Wait + Sync>(
+fn watch_bytes<P: ProgressLine, R: Threads + Wait + Sync>(
     threads: &R,
     alloc: Global,
     recorded: &Recording,

@@ -7,6 +7,7 @@ use Rattle.host_io.specs.declared.error.RunError.{RunError}
 use Rattle.host_io.specs.declared.error.RunError.TheVariants as refusals
 use Rattle.program_files.proofs.Told.{on_error}
 use Rattle.program_files.specs.Asked.{RefusedSetRun}
+use Rattle.program_files.specs.Relations.{FileRelations}
 use Rattle.program_files.specs.Failures.{HasFailed, IsCutOff, IsFileFailure, TellsFault}
 use Rattle.program_files.specs.declared.failure.CommandFailure.{CommandFailure}
 use Rattle.program_files.specs.declared.failure.CommandFailure.TheVariants as failures
@@ -15,20 +16,20 @@ use Rattle.program_files.specs.declared.files.FileFault.{FileFault}
 -- ---- files
 
 -- a file couldn't be read, and that is told
-pub unread : (lacks : List ℕ → FileFault → Type 0) (path : List ℕ) (fault : FileFault) (f : CommandFailure) → lacks path fault → TellsFault path fault f →
-    IsFileFailure lacks (λ named. named ≡ path) ⊥ f
-unread lacks path fault (failures.Refused error) lack told = told
-unread lacks path fault (failures.File text cause) lack told =
-    (told.0, subst (λ (p : List ℕ). lacks p cause) (sym told.0) (subst (λ (c : FileFault). lacks path c) (sym told.1) lack))
-unread lacks path fault _ lack told = absurd told
+pub unread : (files : FileRelations) (path : List ℕ) (fault : FileFault) (f : CommandFailure) → files.lacks path fault → TellsFault path fault f →
+    IsFileFailure files (λ named. named ≡ path) ⊥ f
+unread files path fault (failures.Refused error) lack told = told
+unread files path fault (failures.File text cause) lack told =
+    (told.0, subst (λ (p : List ℕ). files.lacks p cause) (sym told.0) (subst (λ (c : FileFault). files.lacks path c) (sym told.1) lack))
+unread files path fault _ lack told = absurd told
 
 -- the file is one of more that are named, and the image is without the object where it was so before
-pub named_too : (lacks : List ℕ → FileFault → Type 0) (is_one is_other : List ℕ → Type 0) (one other : Type 0) (f : CommandFailure) →
-    ((path : List ℕ) → is_one path → is_other path) → (one → other) → IsFileFailure lacks is_one one f → IsFileFailure lacks is_other other f
-named_too lacks is_one is_other one other (failures.Refused error) more without h = h
-named_too lacks is_one is_other one other (failures.File text fault) more without h = (more (string_bytes text) h.0, h.1)
-named_too lacks is_one is_other one other failures.NoSpurious more without h = without h
-named_too lacks is_one is_other one other _ more without h = absurd h
+pub named_too : (files : FileRelations) (is_one is_other : List ℕ → Type 0) (one other : Type 0) (f : CommandFailure) →
+    ((path : List ℕ) → is_one path → is_other path) → (one → other) → IsFileFailure files is_one one f → IsFileFailure files is_other other f
+named_too files is_one is_other one other (failures.Refused error) more without h = h
+named_too files is_one is_other one other (failures.File text fault) more without h = (more (string_bytes text) h.0, h.1)
+named_too files is_one is_other one other failures.NoSpurious more without h = without h
+named_too files is_one is_other one other _ more without h = absurd h
 
 -- ---- outputs
 

@@ -1,6 +1,4 @@
--- What a run is given by a command line: the bytes of its files, its plan and its settings. `holds` says that bytes are all that the
--- file of a path held, `begins` that they are so many of its first bytes, or all where it has fewer, and `lacks` that it couldn't be read
--- for a fault. `failed` says that the output failed.
+-- What a run is given by a command line: the bytes of its files, its plan and its settings. `failed` says that the output failed.
 use Rattle.std.specs.Prelude.{◌≡◌, ◌⊎◌, ◌≤◌, ◌++◌, ◌∷◌, [], ℕ, List, Bool, true, false, if◌then◌else◌, Option, Some, None, option_map, Err}
 use Rattle.command_line.specs.declared.settings.PlanChoice.{PlanChoice}
 use Rattle.command_line.specs.declared.settings.Program.{Program}
@@ -12,7 +10,7 @@ use Rattle.round_planner.specs.declared.settings.Format.TheVariants.{Elf, Flat}
 use Rattle.round_planner.specs.declared.settings.Settings.{Settings}
 use Rattle.round_planner.specs.Families.{family_plan}
 use Rattle.program_files.specs.Failures.{IsFileFailure, IsOutput, Tells}
-use Rattle.program_files.specs.declared.files.FileFault.{FileFault}
+use Rattle.program_files.specs.Relations.{FileRelations}
 use Rattle.program_files.specs.Spurious.{AllowsSpurious, spurious_place}
 use Rattle.program_files.specs.declared.failure.CommandFailure.{CommandFailure}
 use Rattle.round_planner.specs.PlanText.{ReadsAs}
@@ -23,9 +21,9 @@ abbrev pub most_of_flat : ℕ
 most_of_flat = 67108865
 
 -- the bytes of the image's file: it is a flat file or not
-abbrev pub IsImageFile : (List ℕ → List ℕ → Type 0) → (List ℕ → ℕ → List ℕ → Type 0) → Bool → List ℕ → List ℕ → Type 0
-IsImageFile holds begins true path file = begins path most_of_flat file
-IsImageFile holds begins false path file = holds path file
+abbrev pub IsImageFile : FileRelations → Bool → List ℕ → List ℕ → Type 0
+IsImageFile files true path file = files.begins path most_of_flat file
+IsImageFile files false path file = files.holds path file
 
 -- the image that is run: that of the file, but where waits may return without a signal for the byte that allows it
 abbrev pub IsRunAs : Bool → List ℕ → List ℕ → Type 0
@@ -33,27 +31,27 @@ IsRunAs true file image = AllowsSpurious file image
 IsRunAs false file image = image ≡ file
 
 -- the bytes of the image
-pub record IsImageOf (holds : List ℕ → List ℕ → Type 0) (begins : List ℕ → ℕ → List ℕ → Type 0) (program : Program) (image : List ℕ) : Type 0 where
+pub record IsImageOf (files : FileRelations) (program : Program) (image : List ℕ) : Type 0 where
   pub file : List ℕ
-  pub is_file : IsImageFile holds begins program.flat program.image.now file
+  pub is_file : IsImageFile files program.flat program.image.now file
   pub is_image : IsRunAs program.spurious file image
 
 -- waits are to return without a signal, and the image's file has nothing that would allow it
-pub record LacksSpurious (holds : List ℕ → List ℕ → Type 0) (begins : List ℕ → ℕ → List ℕ → Type 0) (program : Program) : Type 0 where
+pub record LacksSpurious (files : FileRelations) (program : Program) : Type 0 where
   pub asked : program.spurious ≡ true
   pub file : List ℕ
-  pub is_file : IsImageFile holds begins program.flat program.image.now file
+  pub is_file : IsImageFile files program.flat program.image.now file
   pub no_place : spurious_place file ≡ None
 
 -- the input is what the file of the path holds, and empty without one
-abbrev pub IsInputOf : (List ℕ → List ℕ → Type 0) → Option (List ℕ) → List ℕ → Type 0
-IsInputOf holds None input = input ≡ []
-IsInputOf holds (Some path) input = holds path input
+abbrev pub IsInputOf : FileRelations → Option (List ℕ) → List ℕ → Type 0
+IsInputOf files None input = input ≡ []
+IsInputOf files (Some path) input = files.holds path input
 
 -- the guest program of the line, and its input
-pub record IsProgramOf (holds : List ℕ → List ℕ → Type 0) (begins : List ℕ → ℕ → List ℕ → Type 0) (program : Program) (image input : List ℕ) : Type 0 where
-  pub is_image : IsImageOf holds begins program image
-  pub is_input : IsInputOf holds (option_map (λ path. path.now) program.input) input
+pub record IsProgramOf (files : FileRelations) (program : Program) (image input : List ℕ) : Type 0 where
+  pub is_image : IsImageOf files program image
+  pub is_input : IsInputOf files (option_map (λ path. path.now) program.input) input
 
 -- the paths that the line names: those of the program, of the plan, and of both
 abbrev pub IsFileOfProgram : Program → List ℕ → Type 0
@@ -72,9 +70,9 @@ pub record IsFamilyPlan (seed harts number : ℕ) (text : List ℕ) (budget : �
 
 -- the text and the budget of the plan that the line chooses: one of the family, that of a file, or one row. Where there is no such
 -- number of harts, the run is refused for it, whatever its plan
-pub record IsPlanChosen (holds : List ℕ → List ℕ → Type 0) (choice : PlanChoice) (harts : ℕ) (text : List ℕ) (budget : ℕ) : Type 0 where
+pub record IsPlanChosen (files : FileRelations) (choice : PlanChoice) (harts : ℕ) (text : List ℕ) (budget : ℕ) : Type 0 where
   pub numbered : (number : ℕ) → choice.number ≡ Some number → 1 ≤ harts → harts ≤ 64 → IsFamilyPlan choice.seed harts number text budget
-  pub filed : (path : List ℕ) → choice.number ≡ None → option_map (λ file. file.now) choice.file ≡ Some path → holds path text
+  pub filed : (path : List ℕ) → choice.number ≡ None → option_map (λ file. file.now) choice.file ≡ Some path → files.holds path text
   pub row : choice.number ≡ None → choice.file ≡ None → text ≡ choice.quota.now ++ 10 ∷ []
   pub is_budget : choice.number ≡ None → budget ≡ choice.budget
 
@@ -89,9 +87,9 @@ pub record HasSettings (program : Program) (text : List ℕ) (budget : ℕ) (s :
   pub plan : s.plan.now ≡ text
 
 -- what the run of a line is given by its files
-pub record IsGiven (holds : List ℕ → List ℕ → Type 0) (begins : List ℕ → ℕ → List ℕ → Type 0) (run : Run) (image input text : List ℕ) (budget : ℕ) : Type 0 where
-  pub program : IsProgramOf holds begins run.program image input
-  pub plan : IsPlanChosen holds run.plan run.program.harts text budget
+pub record IsGiven (files : FileRelations) (run : Run) (image input text : List ℕ) (budget : ℕ) : Type 0 where
+  pub program : IsProgramOf files run.program image input
+  pub plan : IsPlanChosen files run.plan run.program.harts text budget
 
 -- a run of a program by a plan: its settings, and what the text of its plan says
 pub record SetRun (program : Program) (text : List ℕ) (budget : ℕ) : Type 0 where
@@ -101,12 +99,12 @@ pub record SetRun (program : Program) (text : List ℕ) (budget : ℕ) : Type 0 
   pub planned : IsPlan settings plan
 
 -- the run that a line asks for
-pub record AskedRun (holds : List ℕ → List ℕ → Type 0) (begins : List ℕ → ℕ → List ℕ → Type 0) (run : Run) : Type 0 where
+pub record AskedRun (files : FileRelations) (run : Run) : Type 0 where
   pub image : List ℕ
   pub input : List ℕ
   pub text : List ℕ
   pub budget : ℕ
-  pub given : IsGiven holds begins run image input text budget
+  pub given : IsGiven files run image input text budget
   pub made : SetRun run.program text budget
 
 -- a run of a program by a plan, and that it is refused, or the output can't be written
@@ -119,16 +117,16 @@ pub record RefusedSetRun (program : Program) (text : List ℕ) (budget : ℕ) (i
   pub reason : settings_fault settings ≡ None → IsReason settings image error ⊎ ((error ≡ refusals.SinkFailed) × failed)
 
 -- the run that a line asks for is refused: for settings that are out of range, then for the image, then for the plan, or for want of memory
-pub record RefusedRun (holds : List ℕ → List ℕ → Type 0) (begins : List ℕ → ℕ → List ℕ → Type 0) (run : Run) (failed : Type 0) (f : CommandFailure) : Type 0 where
+pub record RefusedRun (files : FileRelations) (run : Run) (failed : Type 0) (f : CommandFailure) : Type 0 where
   pub image : List ℕ
   pub input : List ℕ
   pub text : List ℕ
   pub budget : ℕ
-  pub given : IsGiven holds begins run image input text budget
+  pub given : IsGiven files run image input text budget
   pub refused : RefusedSetRun run.program text budget image failed f
 
 -- why a command on a run ends without what it was asked for: a file of the line couldn't be read or lacks what is asked for, the output failed, or
 -- the run is refused
-abbrev pub EndsFor : (List ℕ → List ℕ → Type 0) → (List ℕ → ℕ → List ℕ → Type 0) → (List ℕ → FileFault → Type 0) → Run → Type 0 → CommandFailure → Type 0
-EndsFor holds begins lacks run failed f =
-    IsFileFailure lacks (IsFileOfRun run) (LacksSpurious holds begins run.program) f ⊎ IsOutput failed f ⊎ RefusedRun holds begins run failed f
+abbrev pub EndsFor : FileRelations → Run → Type 0 → CommandFailure → Type 0
+EndsFor files run failed f =
+    IsFileFailure files (IsFileOfRun run) (LacksSpurious files run.program) f ⊎ IsOutput failed f ⊎ RefusedRun files run failed f

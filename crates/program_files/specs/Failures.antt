@@ -9,6 +9,7 @@ use Rattle.hunt_table.specs.Refusals.{merge_number}
 use Rattle.hunt_table.specs.declared.merge_error.MergeError.{MergeError}
 use Rattle.hunt_table.specs.declared.merge_error.MergeError.TheVariants as merges
 use Rattle.program_files.specs.Naming.{naming_number}
+use Rattle.program_files.specs.Relations.{FileRelations}
 use Rattle.program_files.specs.declared.reasons.Apart.{Apart}
 use Rattle.program_files.specs.declared.reasons.Apart.TheVariants as causes
 use Rattle.program_files.specs.declared.failure.CommandFailure.{CommandFailure}
@@ -78,13 +79,12 @@ IsCutEnd failed failure = (failure ≡ out_of_memory) ⊎ IsOutput failed failur
 
 -- ---- files
 
--- one of the files that are named couldn't be read, as `lacks` says of a path and a fault, the image is without the object
--- `dethart_spurious`, or memory was refused
-abbrev pub IsFileFailure : (List ℕ → FileFault → Type 0) → (List ℕ → Type 0) → Type 0 → CommandFailure → Type 0
-IsFileFailure lacks is_named is_without (failures.Refused error) = error ≡ refusals.OutOfMemory
-IsFileFailure lacks is_named is_without (failures.File path fault) = is_named (string_bytes path) × lacks (string_bytes path) fault
-IsFileFailure lacks is_named is_without failures.NoSpurious = is_without
-IsFileFailure lacks is_named is_without _ = ⊥
+-- one of the files that are named couldn't be read, the image is without the object `dethart_spurious`, or memory was refused
+abbrev pub IsFileFailure : FileRelations → (List ℕ → Type 0) → Type 0 → CommandFailure → Type 0
+IsFileFailure files is_named is_without (failures.Refused error) = error ≡ refusals.OutOfMemory
+IsFileFailure files is_named is_without (failures.File path fault) = is_named (string_bytes path) × files.lacks (string_bytes path) fault
+IsFileFailure files is_named is_without failures.NoSpurious = is_without
+IsFileFailure files is_named is_without _ = ⊥
 
 -- the failure tells that the file of a path couldn't be read for this fault, or that memory was refused
 abbrev pub TellsFault : List ℕ → FileFault → CommandFailure → Type 0

@@ -1,17 +1,17 @@
 //! Decimal addresses that would be addresses of the image in hexadecimal, too.
 
 use crate::headers::number_at;
-use crate::messages::Messages;
+use crate::world::World;
 use command_line::Bytes;
 
 /// Says on standard error how the first decimal address was read whose digits are an address of the image in hexadecimal, too.
-pub fn tell_of_decimals<M: Messages>(messages: &M, image: &[u8], is_flat: bool, seen: &[Bytes]) {
+pub fn tell_of_decimals<W: World>(world: &W, image: &[u8], is_flat: bool, seen: &[Bytes]) {
     for bytes in seen {
         let address = bytes.address;
         let other = digits_in_hexadecimal(address);
         let differs = bytes.is_decimal && other != u128::from(address);
         if differs && is_in_image(image, is_flat, other) {
-            messages.tell(format_args!(
+            world.tell(format_args!(
                 "the address {address} was read in decimal, as 0x{address:x}: write 0x{address} for the hexadecimal one"
             ));
             return;

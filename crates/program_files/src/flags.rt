@@ -1,6 +1,6 @@
 //! What the flags of an ELF file say that no hart has.
 
-use crate::messages::Messages;
+use crate::world::World;
 
 /// The flag of a program that may have compressed instructions.
 const COMPRESSED: u8 = 1;
@@ -10,7 +10,7 @@ const FLOATS: u8 = 6;
 
 /// Says on standard error where the flags of an ELF file, of which this is a beginning, say that the program was built for
 /// compressed instructions or for registers of floats.
-pub fn tell_of_flags<M: Messages>(messages: &M, path: &str, beginning: &[u8]) {
+pub fn tell_of_flags<W: World>(world: &W, path: &str, beginning: &[u8]) {
     let flags = flags_of(beginning);
     let what = match (flags & COMPRESSED != 0, flags & FLOATS != 0) {
         (false, false) => return,
@@ -18,7 +18,7 @@ pub fn tell_of_flags<M: Messages>(messages: &M, path: &str, beginning: &[u8]) {
         (false, true) => "registers of floats",
         (true, true) => "compressed instructions and registers of floats",
     };
-    messages.tell(format_args!(
+    world.tell(format_args!(
         "{path} was built for {what}, as its e_flags say, and a hart has none: build it with -march=rv64ima -mabi=lp64"
     ));
 }

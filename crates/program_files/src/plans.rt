@@ -4,9 +4,9 @@ ghost use Rattle.program_files.specs.Asked.{IsFamilyPlan, IsFileOfPlan, IsPlanCh
 ghost use Rattle.program_files.specs.Failures.{IsFileFailure, IsTold};
 
 use crate::failure::CommandFailure;
-use crate::files::Files;
 use crate::plan_lines::bad_line;
 use crate::reading::read_file;
+use crate::world::World;
 use command_line::PlanChoice;
 use host_io::RunError;
 use pages::OutOfMemory;
@@ -30,15 +30,16 @@ pub struct AskedPlan {
 /// # Errors
 ///
 /// `File` where the file can't be read, and `OutOfMemory`.
-pub fn plan_of<F: Files>(
-    files: &F,
+pub fn plan_of<W: World>(
+    world: &W,
     alloc: Global,
     choice: &PlanChoice<'_>,
     harts: u32,
 ) -> Result<AskedPlan, CommandFailure>
     ensures plan { IfOk result (λ plan.
-        IsPlanChosen (F.holds files.now) choice.now harts plan.text.items plan.budget) }
-    ensures errors { IfErr result (IsFileFailure (F.lacks files.now) (IsFileOfPlan choice.now) ⊥) }
+        IsPlanChosen (W.files world.now) choice.now harts plan.text.items plan.budget) }
+    ensures errors { IfErr result (IsFileFailure (W.files world.now) (IsFileOfPlan choice.now)
+        ⊥) }
 {
     let (text, is_file) = match (choice.number, choice.file) {
         // Where there is no such number of harts, the run is refused for it, whatever its plan.
@@ -49,7 +50,7 @@ pub fn plan_of<F: Files>(
             };
             return Ok(family_plan(alloc, family, number)?);
         }
-        (None, Some(path)) => (read_file(files, alloc, path)?, true),
+        (None, Some(path)) => (read_file(world, alloc, path)?, true),
         _ => (row_of(alloc, choice.quota)?, false),
     };
     Ok(AskedPlan {

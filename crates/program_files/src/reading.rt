@@ -4,8 +4,9 @@ ghost use Rattle.program_files.specs.Asked.{IsFileOfProgram, IsImageFile, IsImag
 ghost use Rattle.program_files.specs.Failures.{IsFileFailure, TellsFault};
 
 use crate::failure::CommandFailure;
-use crate::files::{FileFault, Files};
+use crate::files::FileFault;
 use crate::spurious::allow_spurious;
+use crate::world::World;
 use command_line::Program;
 use host_io::RunError;
 use pages::MOST_PAGES;
@@ -19,12 +20,12 @@ const MOST_OF_FLAT: u64 = MOST_PAGES as u64 * 4096 + 1;
 /// # Errors
 ///
 /// `File` where it can't be read, and `OutOfMemory`.
-pub fn read_file<F: Files>(files: &F, alloc: Global, path: &str) -> Result<Vec<u8>, CommandFailure>
-    ensures holds { IfOk result (λ bytes. F.holds files.now path.now bytes.items) }
-    ensures errors { IfErr result (IsFileFailure (F.lacks files.now)
+pub fn read_file<W: World>(world: &W, alloc: Global, path: &str) -> Result<Vec<u8>, CommandFailure>
+    ensures holds { IfOk result (λ bytes. (W.files world.now).holds path.now bytes.items) }
+    ensures errors { IfErr result (IsFileFailure (W.files world.now)
         (λ named. named ≡ path.now) ⊥) }
 {
-    match files.read_whole(path) {
+    match world.read_whole(path) {
         Ok(bytes) => Ok(bytes),
         Err(fault) => Err(unreadable(alloc, path, fault)),
     }
@@ -55,38 +56,35 @@ pub struct ProgramFiles {
 ///
 /// `File` where one of the files can't be read, `NoSpurious` where waits are to return without a signal and the image has no object by which
 /// they would, and `OutOfMemory`.
-pub fn read_program<F: Files>(
-    files: &F,
+pub fn read_program<W: World>(
+    world: &W,
     alloc: Global,
     program: &Program<'_>,
 ) -> Result<ProgramFiles, CommandFailure>
-    ensures program { IfOk result (λ p.
-        IsProgramOf (F.holds files.now) (F.begins files.now) program.now
+    ensures program { IfOk result (λ p. IsProgramOf (W.files world.now) program.now
         p.image.items p.input.items) }
-    ensures errors { IfErr result (IsFileFailure (F.lacks files.now) (IsFileOfProgram program.now)
-        (LacksSpurious (F.holds files.now) (F.begins files.now) program.now)) }
+    ensures errors { IfErr result (IsFileFailure (W.files world.now) (IsFileOfProgram program.now)
+        (LacksSpurious (W.files world.now) program.now)) }
 {
-    let image = read_image(files, alloc, program)?;
+    let image = read_image(world, alloc, program)?;
     let input = match program.input {
-        Some(path) => read_file(files, alloc, path)?,
+        Some(path) => read_file(world, alloc, path)?,
         None => Vec::new(alloc),
     };
     Ok(ProgramFiles { image, input })
 }
 
 /// Reads the image of a guest program, as it is run.
-fn read_image<F: Files>(
-    files: &F,
+fn read_image<W: World>(
+    world: &W,
     alloc: Global,
     program: &Program<'_>,
 ) -> Result<Vec<u8>, CommandFailure>
-    ensures image { IfOk result (λ bytes. IsImageOf (F.holds files.now) (F.begins files.now)
-        program.now bytes.items) }
-    ensures errors { IfErr result (IsFileFailure (F.lacks files.now)
-        (λ named. named ≡ program.now.image.now)
-        (LacksSpurious (F.holds files.now) (F.begins files.now) program.now)) }
+    ensures image { IfOk result (λ bytes. IsImageOf (W.files world.now) program.now bytes.items) }
+    ensures errors { IfErr result (IsFileFailure (W.files world.now)
+        (λ named. named ≡ program.now.image.now) (LacksSpurious (W.files world.now) program.now)) }
 {
-    let file = read_image_file(files, alloc, program)?;
+    let file = read_image_file(world, alloc, program)?;
     if program.spurious {
         allow_spurious(file)
     } else {
@@ -95,21 +93,21 @@ fn read_image<F: Files>(
 }
 
 /// Reads the file of the image.
-fn read_image_file<F: Files>(
-    files: &F,
+fn read_image_file<W: World>(
+    world: &W,
     alloc: Global,
     program: &Program<'_>,
 ) -> Result<Vec<u8>, CommandFailure>
-    ensures file { IfOk result (λ bytes. IsImageFile (F.holds files.now) (F.begins files.now)
+    ensures file { IfOk result (λ bytes. IsImageFile (W.files world.now)
         program.now.flat program.now.image.now bytes.items) }
-    ensures errors { IfErr result (IsFileFailure (F.lacks files.now)
+    ensures errors { IfErr result (IsFileFailure (W.files world.now)
         (λ named. named ≡ program.now.image.now) ⊥) }
 {
     if !program.flat {
-        return read_file(files, alloc, program.image);
+        return read_file(world, alloc, program.image);
     }
     // One that is longer is refused by this beginning of it, as it would be by the whole.
-    match files.read_beginning(program.image, MOST_OF_FLAT) {
+    match world.read_beginning(program.image, MOST_OF_FLAT) {
         Ok(bytes) => Ok(bytes),
         Err(fault) => Err(unreadable(alloc, program.image, fault)),
     }

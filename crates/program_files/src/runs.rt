@@ -3,9 +3,9 @@ ghost use Rattle.program_files.specs.Asked.{IsFileOfRun, IsGiven, LacksSpurious}
 ghost use Rattle.program_files.specs.Failures.{IsFileFailure};
 
 use crate::failure::CommandFailure;
-use crate::files::Files;
 use crate::plans::{AskedPlan, plan_of};
 use crate::reading::{ProgramFiles, read_program};
+use crate::world::World;
 use command_line::Run;
 use std::alloc::Global;
 
@@ -23,17 +23,17 @@ pub struct RunFiles {
 /// # Errors
 ///
 /// `File` where one of them can't be read, and `OutOfMemory`.
-pub fn read_run<F: Files>(
-    files: &F,
+pub fn read_run<W: World>(
+    world: &W,
     alloc: Global,
     run: &Run<'_>,
 ) -> Result<RunFiles, CommandFailure>
-    ensures given { IfOk result (λ read. IsGiven (F.holds files.now) (F.begins files.now) run.now
+    ensures given { IfOk result (λ read. IsGiven (W.files world.now) run.now
         read.program.image.items read.program.input.items read.plan.text.items read.plan.budget) }
-    ensures errors { IfErr result (IsFileFailure (F.lacks files.now) (IsFileOfRun run.now)
-        (LacksSpurious (F.holds files.now) (F.begins files.now) run.now.program)) }
+    ensures errors { IfErr result (IsFileFailure (W.files world.now) (IsFileOfRun run.now)
+        (LacksSpurious (W.files world.now) run.now.program)) }
 {
-    let program = read_program(files, alloc, &run.program)?;
-    let plan = plan_of(files, alloc, &run.plan, run.program.harts)?;
+    let program = read_program(world, alloc, &run.program)?;
+    let plan = plan_of(world, alloc, &run.plan, run.program.harts)?;
     Ok(RunFiles { program, plan })
 }

@@ -5,7 +5,7 @@ use Rattle.command_line.specs.declared.settings.Record.{Record}
 use Rattle.round_planner.specs.declared.settings.Settings.{Settings}
 use Rattle.program_files.specs.Asked.{IsFileOfRun, LacksSpurious, RefusedRun}
 use Rattle.program_files.specs.Failures.{IsFileFailure, IsUnwritten}
-use Rattle.program_files.specs.declared.files.FileFault.{FileFault}
+use Rattle.program_files.specs.Relations.{FileRelations}
 use Rattle.program_files.specs.Needed.{Needs}
 use Rattle.run_commands.specs.Reading.{EndsReading}
 use Rattle.program_files.specs.declared.failure.CommandFailure.{CommandFailure}
@@ -32,14 +32,14 @@ abbrev pub migrated_text : Recorded → List ℕ
 migrated_text r = recording.spelled (record r { version = 2 })
 
 -- a file of the run couldn't be read, or the run is refused; there is no output that could fail
-abbrev pub IsUnrecorded : (List ℕ → List ℕ → Type 0) → (List ℕ → ℕ → List ℕ → Type 0) → (List ℕ → FileFault → Type 0) → Record → CommandFailure → Type 0
-IsUnrecorded holds begins lacks asked f =
-    IsFileFailure lacks (IsFileOfRun asked.run) (LacksSpurious holds begins asked.run.program) f ⊎ RefusedRun holds begins asked.run ⊥ f
+abbrev pub IsUnrecorded : FileRelations → Record → CommandFailure → Type 0
+IsUnrecorded files asked f =
+    IsFileFailure files (IsFileOfRun asked.run) (LacksSpurious files asked.run.program) f ⊎ RefusedRun files asked.run ⊥ f
 
 -- why `record` ends without a recording: the run isn't recorded, or its recording couldn't be written
-abbrev pub EndsRecord : (List ℕ → List ℕ → Type 0) → (List ℕ → ℕ → List ℕ → Type 0) → (List ℕ → FileFault → Type 0) → (List ℕ → Type 0) → Record → CommandFailure → Type 0
-EndsRecord holds begins lacks wasnt_given asked f = IsUnrecorded holds begins lacks asked f ⊎ IsUnwritten wasnt_given asked.out.now f
+abbrev pub EndsRecord : FileRelations → (List ℕ → Type 0) → Record → CommandFailure → Type 0
+EndsRecord files wasnt_given asked f = IsUnrecorded files asked f ⊎ IsUnwritten wasnt_given asked.out.now f
 
 -- why `migrate` does: no recording was read, or the new one couldn't be written
-abbrev pub EndsMigrate : (List ℕ → List ℕ → List ℕ → Type 0) → (List ℕ → FileFault → Type 0) → (List ℕ → Type 0) → Migrate → CommandFailure → Type 0
-EndsMigrate marked lacks wasnt_given asked f = EndsReading marked lacks asked.recording.now f ⊎ IsUnwritten wasnt_given asked.out.now f
+abbrev pub EndsMigrate : FileRelations → (List ℕ → Type 0) → Migrate → CommandFailure → Type 0
+EndsMigrate files wasnt_given asked f = EndsReading files asked.recording.now f ⊎ IsUnwritten wasnt_given asked.out.now f

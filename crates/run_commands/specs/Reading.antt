@@ -1,8 +1,7 @@
--- Recordings that files hold. `marked` says that bytes are all that the file of a path held, if they begin with a mark, and else a
--- beginning of it, and `lacks` that it couldn't be read for a fault.
+-- Recordings that files hold.
 use Rattle.std.specs.Prelude.{◌≡◌, ◌⊎◌, ℕ, List, codes}
 use Rattle.program_files.specs.Failures.{IsFileFailure}
-use Rattle.program_files.specs.declared.files.FileFault.{FileFault}
+use Rattle.program_files.specs.Relations.{FileRelations}
 use Rattle.program_files.specs.declared.failure.CommandFailure.{CommandFailure}
 use Rattle.program_files.specs.declared.failure.CommandFailure.TheVariants.{Unread}
 use Rattle.recording.specs.Grammar.{IsRecording, reading}
@@ -15,18 +14,18 @@ abbrev pub recording_mark : List ℕ
 recording_mark = codes "RVDETREC"
 
 -- the file of a path holds this recording
-pub record HoldsRecording (marked : List ℕ → List ℕ → List ℕ → Type 0) (path : List ℕ) (r : Recorded) : Type 0 where
+pub record HoldsRecording (files : FileRelations) (path : List ℕ) (r : Recorded) : Type 0 where
   pub text : List ℕ
-  pub held : marked path recording_mark text
+  pub held : files.marked path recording_mark text
   pub is_recording : IsRecording text r
 
 -- it holds none, for this reason
-pub record HoldsNoRecording (marked : List ℕ → List ℕ → List ℕ → Type 0) (path : List ℕ) (e : ReadError) : Type 0 where
+pub record HoldsNoRecording (files : FileRelations) (path : List ℕ) (e : ReadError) : Type 0 where
   pub text : List ℕ
-  pub held : marked path recording_mark text
+  pub held : files.marked path recording_mark text
   pub fails : Fails e (reading text)
 
 -- why no recording was read: the file can't be read, memory was refused, or it holds none
-abbrev pub EndsReading : (List ℕ → List ℕ → List ℕ → Type 0) → (List ℕ → FileFault → Type 0) → List ℕ → CommandFailure → Type 0
-EndsReading marked lacks path failure =
-    IsFileFailure lacks (λ named. named ≡ path) ⊥ failure ⊎ ((error : ReadError) × (failure ≡ Unread error) × HoldsNoRecording marked path error)
+abbrev pub EndsReading : FileRelations → List ℕ → CommandFailure → Type 0
+EndsReading files path failure =
+    IsFileFailure files (λ named. named ≡ path) ⊥ failure ⊎ ((error : ReadError) × (failure ≡ Unread error) × HoldsNoRecording files path error)

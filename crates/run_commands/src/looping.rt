@@ -2,24 +2,24 @@
 use command_line::Program;
 use hunter::find_run_endings;
 use plan_hunt::HartEnding;
-use program_files::{CommandFailure, Messages, RunFiles, guest_files, settings_of};
+use program_files::{CommandFailure, RunFiles, World, guest_files, settings_of};
 use std::alloc::Global;
 use std::sync::Wait;
 use std::thread::Threads;
 
 /// Runs the guest program of some files once more, as far as it needs to be told whether the run goes round, and says on standard
 /// error which harts loop.
-pub(crate) fn tell_loops<M: Messages, R: Threads + Wait + Sync>(
+pub(crate) fn tell_loops<W: World, R: Threads + Wait + Sync>(
     threads: &R,
     alloc: Global,
     program: &Program<'_>,
     given: &RunFiles,
-    messages: &M,
+    world: &W,
 ) -> Result<(), CommandFailure> {
     let endings = endings_of(threads, alloc, program, given)?;
     for (hart, ending) in endings.iter().enumerate() {
         if *ending == HartEnding::Loops {
-            messages.tell(format_args!("hart {hart} loops: it runs for ever under this plan"));
+            world.tell(format_args!("hart {hart} loops: it runs for ever under this plan"));
         }
     }
     Ok(())

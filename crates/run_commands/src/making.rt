@@ -12,8 +12,8 @@ use command_line::Record;
 use host_io::RunError;
 use machine::{GuestFiles, Observer, Settings};
 use program_files::{
-    CommandFailure, ExitStatus, Files, Messages, ProgressLine, RunFiles, guest_files,
-    needed_rounds, read_run, settings_of,
+    CommandFailure, ExitStatus, ProgressLine, RunFiles, World, guest_files, needed_rounds,
+    read_run, settings_of,
 };
 use recording::{Checkpoint, Recording};
 use replayer::record_observed;
@@ -28,37 +28,37 @@ use std::thread::Threads;
 ///
 /// `File` where one can't be read, the refusals of the run, and that of memory: no file is written then. `Unwritten` where the recording
 /// can't be written: its file holds what it held before.
-pub fn record_command<F: Files, M: Messages, P: Observer + ProgressLine, R: Threads + Wait + Sync>(
+#[inline(never)]
+pub fn record_command<W: World, R: Threads + Wait + Sync>(
     threads: &R,
     alloc: Global,
-    files: &mut F,
+    world: &mut W,
     asked: &Record<'_>,
-    progress: &mut P,
-    messages: &M,
 ) -> Result<ExitStatus, CommandFailure>
     // The file that the line names was given the recording of the run that the line asks for, of all its rounds or of those that it needs.
     ensures records { IfOk result (λ status.
-        (a : AskedRun (F.holds files.old) (F.begins files.old) asked.now.run) × (n : ℕ) ×
+        (a : AskedRun (W.files world.old) asked.now.run) × (n : ℕ) ×
         AreRecorded asked.now.until_stopped a.made.settings a.image a.input n ×
-        F.was_given files.old files.new asked.now.out.now
+        W.was_given world.old world.new asked.now.out.now
         (recorded_text (for_rounds n a.made.settings) asked.now.every a.image a.input a.made.plan) ×
         (status ≡ statuses.Done)) }
     // Else no file was written, or this one couldn't be.
-    ensures unwritten { IfErr result (λ f. (files.new ≡ files.old) ⊎
-        IsUnwritten (F.wasnt_given files.new) asked.now.out.now f) }
-    ensures errors { IfErr result (EndsRecord (F.holds files.old) (F.begins files.old)
-        (F.lacks files.old)
-        (F.wasnt_given files.new) asked.now) }
+    ensures unwritten { IfErr result (λ f. (world.new ≡ world.old) ⊎
+        IsUnwritten (W.wasnt_given world.new) asked.now.out.now f) }
+    ensures errors { IfErr result (EndsRecord (W.files world.old)
+        (W.wasnt_given world.new) asked.now) }
 {
-    let given = read_run(files, alloc, &asked.run)?;
-    let recorded = record_given(threads, alloc, &given, asked, progress)?;
-    save(files, alloc, &recorded, asked.out)?;
-    tell_of_rounds(&recorded, messages);
+    let program = &asked.run.program;
+    let mut progress = world.progress(program.progress, program.rounds, 1, None);
+    let given = read_run(world, alloc, &asked.run)?;
+    let recorded = record_given(threads, alloc, &given, asked, &mut progress)?;
+    save(world, alloc, &recorded, asked.out)?;
+    tell_of_rounds(&recorded, world);
     Ok(ExitStatus::Done)
 }
 
 /// Records the run of what the files gave.
-fn record_given<P: Observer + ProgressLine, R: Threads + Wait + Sync>(
+fn record_given<P: ProgressLine, R: Threads + Wait + Sync>(
     threads: &R,
     alloc: Global,
     given: &RunFiles,
@@ -145,12 +145,12 @@ fn rounds_recorded<P: Observer, R: Threads + Wait + Sync>(
 }
 
 /// Says on standard error where all harts had stopped before a half of the rounds of a recording was done.
-fn tell_of_rounds<M: Messages>(recorded: &Recording, messages: &M) {
+fn tell_of_rounds<W: World>(recorded: &Recording, world: &W) {
     let (rounds, checkpoints) = (recorded.rounds(), recorded.checkpoints());
     if let Some(index) = checkpoints.iter().position(have_stopped) {
         let done = index.saturating_add(1);
         if done.saturating_mul(2) < rounds as usize {
-            messages.tell(format_args!(
+            world.tell(format_args!(
                 "all harts had stopped after round {done} of {rounds}: --until-stopped records no more than these"
             ));
         }

@@ -8,7 +8,7 @@ ghost use Rattle.recording.specs.Recorded.{Recorded};
 use crate::reading::read_recording_of;
 use crate::saving::save;
 use command_line::Migrate;
-use program_files::{CommandFailure, ExitStatus, Files};
+use program_files::{CommandFailure, ExitStatus, World};
 use recording::migrate;
 use std::alloc::Global;
 
@@ -18,24 +18,23 @@ use std::alloc::Global;
 ///
 /// `File` where it can't be read, and the refusal of memory; `Unread` where it is no recording: no file is written then. `Unwritten` where
 /// the new one can't be written: its file holds what it held before.
-pub fn migrate_command<F: Files>(
+pub fn migrate_command<W: World>(
     alloc: Global,
-    files: &mut F,
+    world: &mut W,
     asked: &Migrate<'_>,
 ) -> Result<ExitStatus, CommandFailure>
     // The file that the line names was given, in the newest version, the recording that the other one holds.
     ensures migrates { IfOk result (λ status. (r : Recorded) ×
-        HoldsRecording (F.marked files.old) asked.now.recording.now r ×
-        F.was_given files.old files.new asked.now.out.now (migrated_text r) ×
+        HoldsRecording (W.files world.old) asked.now.recording.now r ×
+        W.was_given world.old world.new asked.now.out.now (migrated_text r) ×
         (status ≡ statuses.Done)) }
     // Else no file was written, or this one couldn't be.
-    ensures unwritten { IfErr result (λ f. (files.new ≡ files.old) ⊎
-        IsUnwritten (F.wasnt_given files.new) asked.now.out.now f) }
-    ensures errors { IfErr result (EndsMigrate (F.marked files.old) (F.lacks files.old)
-        (F.wasnt_given files.new)
+    ensures unwritten { IfErr result (λ f. (world.new ≡ world.old) ⊎
+        IsUnwritten (W.wasnt_given world.new) asked.now.out.now f) }
+    ensures errors { IfErr result (EndsMigrate (W.files world.old) (W.wasnt_given world.new)
         asked.now) }
 {
-    let recorded = read_recording_of(files, alloc, asked.recording)?;
-    save(files, alloc, &migrate(recorded), asked.out)?;
+    let recorded = read_recording_of(world, alloc, asked.recording)?;
+    save(world, alloc, &migrate(recorded), asked.out)?;
     Ok(ExitStatus::Done)
 }

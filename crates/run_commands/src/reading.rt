@@ -2,7 +2,7 @@
 ghost use Rattle.std.specs.Prelude.{IfErr, IfOk};
 ghost use Rattle.run_commands.specs.Reading.{EndsReading, HoldsRecording};
 
-use program_files::{CommandFailure, Files, unreadable};
+use program_files::{CommandFailure, World, unreadable};
 use recording::{Recording, read_recording};
 use std::alloc::Global;
 
@@ -11,15 +11,15 @@ use std::alloc::Global;
 /// # Errors
 ///
 /// `File` where it can't be read; `Unread` where it is no recording; the refusal of memory.
-pub fn read_recording_of<F: Files>(
-    files: &F,
+pub fn read_recording_of<W: World>(
+    world: &W,
     alloc: Global,
     path: &str,
 ) -> Result<Recording, CommandFailure>
-    ensures holds { IfOk result (HoldsRecording (F.marked files.now) path.now) }
-    ensures errors { IfErr result (EndsReading (F.marked files.now) (F.lacks files.now) path.now) }
+    ensures holds { IfOk result (HoldsRecording (W.files world.now) path.now) }
+    ensures errors { IfErr result (EndsReading (W.files world.now) path.now) }
 {
-    match files.read_marked(path, b"RVDETREC") {
+    match world.read_marked(path, b"RVDETREC") {
         Ok(text) => match read_recording(alloc, &text) {
             Ok(recorded) => Ok(recorded),
             Err(error) => Err(CommandFailure::Unread(error)),

@@ -17,8 +17,8 @@ use emulation::{RunEnd, report_run, show_run};
 use host_io::RunError;
 use machine::{GuestFiles, Observed, Observer, Settings};
 use program_files::{
-    CommandFailure, ExitStatus, Files, Messages, Output, ProgressLine, RunFiles, guest_files,
-    read_run, settings_of,
+    CommandFailure, ExitStatus, Output, ProgressLine, RunFiles, World, guest_files, read_run,
+    settings_of,
 };
 use std::alloc::Global;
 use std::sync::Wait;
@@ -30,53 +30,45 @@ use std::thread::Threads;
 /// # Errors
 ///
 /// `File` where a file can't be read, the refusals of the run, and `SinkFailed`.
-pub fn run_command<
-    F: Files,
-    O: Output,
-    M: Messages,
-    P: Observer + ProgressLine,
-    R: Threads + Wait + Sync,
->(
+#[inline(never)]
+pub fn run_command<W: World, O: Output, R: Threads + Wait + Sync>(
     threads: &R,
     alloc: Global,
-    files: &F,
+    world: &W,
     asked: &Print<'_>,
-    progress: &mut P,
     out: &mut O,
-    messages: &M,
 ) -> Result<ExitStatus, CommandFailure>
     // All that was printed is what the line asks for of the run that it asks for, and the status is that of how its harts end.
-    ensures runs { IfOk result (λ status.
-        (a : AskedRun (F.holds files.now) (F.begins files.now) asked.now.run) ×
+    ensures runs { IfOk result (λ status. (a : AskedRun (W.files world.now) asked.now.run) ×
         (O.took out.new ≡ O.took out.old ++ printed_text asked.now a.made.settings a.image a.input
-        a.made.plan) ×
-        O.is_out out.new × (status ≡ run_status asked.now.strict
+        a.made.plan) × O.is_out out.new × (status ≡ run_status asked.now.strict
         (end_of (after_run a.made.settings a.image a.input a.made.plan).state.harts))) }
     // Else nothing was printed, or a beginning of that.
     ensures begun { OnErr result ((O.took out.new ≡ O.took out.old) ⊎
-        ((a : AskedRun (F.holds files.now) (F.begins files.now) asked.now.run) ×
+        ((a : AskedRun (W.files world.now) asked.now.run) ×
         BeganText (O.took out.old) (O.took out.new)
         (printed_text asked.now a.made.settings a.image a.input a.made.plan))) }
     // After a refusal for another cause than memory and the output nothing was printed.
     ensures unprinted { IfErr result (λ f.
         IsUnprinted (failure_number f) (O.took out.old) (O.took out.new)) }
-    ensures errors { IfErr result (EndsFor (F.holds files.now) (F.begins files.now)
-        (F.lacks files.now) asked.now.run
+    ensures errors { IfErr result (EndsFor (W.files world.now) asked.now.run
         (HasFailed O.failures O.is_stuck out.old out.new)) }
 {
-    let given = read_run(files, alloc, &asked.run)?;
-    run_given(threads, alloc, &given, asked, progress, out, messages)
+    let program = &asked.run.program;
+    let mut progress = world.progress(program.progress, program.rounds, 1, None);
+    let given = read_run(world, alloc, &asked.run)?;
+    run_given(threads, alloc, world, &given, asked, &mut progress, out)
 }
 
 /// Does the same with what the files gave.
-fn run_given<O: Output, M: Messages, P: Observer + ProgressLine, R: Threads + Wait + Sync>(
+fn run_given<W: World, O: Output, R: Threads + Wait + Sync>(
     threads: &R,
     alloc: Global,
+    world: &W,
     given: &RunFiles,
     asked: &Print<'_>,
-    progress: &mut P,
+    progress: &mut W::Progress,
     out: &mut O,
-    messages: &M,
 ) -> Result<ExitStatus, CommandFailure>
     ensures runs { IfOk result (λ status.
         (r : SetRun asked.now.run.program given.now.plan.text.items given.now.plan.budget) ×
@@ -102,13 +94,13 @@ fn run_given<O: Output, M: Messages, P: Observer + ProgressLine, R: Threads + Wa
     out.hand_on()?;
     if end == RunEnd::RunsOn && (asked.strict || asked.show == Shown::Harts) {
         // What was asked for is out.
-        let _untold = tell_loops(threads, alloc, &asked.run.program, given, messages);
+        let _untold = tell_loops(threads, alloc, &asked.run.program, given, world);
     }
     Ok(run_status(asked.strict, end))
 }
 
 /// Runs the guest program, and prints what is asked for. Answers how its harts have ended.
-fn print_given<O: Output, P: Observer + ProgressLine, R: Threads + Wait + Sync>(
+fn print_given<O: Output, P: ProgressLine, R: Threads + Wait + Sync>(
     threads: &R,
     alloc: Global,
     given: &RunFiles,

@@ -4,7 +4,7 @@ ghost use Rattle.program_files.specs.Failures.{IsUnwritten};
 ghost use Rattle.recording.specs.Grammar.{recording};
 
 use host_io::{RunError, Sink};
-use program_files::{CommandFailure, FileText, Files};
+use program_files::{CommandFailure, FileText, World};
 use recording::{Recording, write_recording};
 use std::alloc::Global;
 
@@ -23,17 +23,17 @@ impl FileText for RecordingText<'_> {
 }
 
 /// Gives the file of a path the text of a recording, in place of what it held.
-pub(crate) fn save<F: Files>(
-    files: &mut F,
+pub(crate) fn save<W: World>(
+    world: &mut W,
     alloc: Global,
     recorded: &Recording,
     path: &str,
 ) -> Result<(), CommandFailure>
-    ensures given { OnOk result (F.was_given files.old files.new path.now
+    ensures given { OnOk result (W.was_given world.old world.new path.now
         (recording.spelled recorded.now)) }
-    ensures errors { IfErr result (IsUnwritten (F.wasnt_given files.new) path.now) }
+    ensures errors { IfErr result (IsUnwritten (W.wasnt_given world.new) path.now) }
 {
-    match files.replace(path, &RecordingText { recorded }) {
+    match world.replace(path, &RecordingText { recorded }) {
         Ok(()) => Ok(()),
         Err(error) => match (error, String::from_str(alloc, path)) {
             (RunError::OutOfMemory, _) | (_, Err(_)) => {

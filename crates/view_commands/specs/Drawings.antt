@@ -14,7 +14,7 @@ use Rattle.round_planner.specs.Settings.{IsImageCause, settings_fault}
 use Rattle.program_files.specs.declared.fault.NamingFault.{NamingFault}
 use Rattle.program_files.specs.Asked.{IsFileOfRun, IsGiven, LacksSpurious, RefusedSetRun, SetRun}
 use Rattle.program_files.specs.Failures.{IsCutEnd, IsFileFailure, IsOutput, out_of_memory}
-use Rattle.program_files.specs.declared.files.FileFault.{FileFault}
+use Rattle.program_files.specs.Relations.{FileRelations}
 use Rattle.program_files.specs.declared.exit_status.ExitStatus.{ExitStatus}
 use Rattle.program_files.specs.declared.exit_status.ExitStatus.TheVariants.{Done}
 use Rattle.view_commands.specs.Views.{IsNamed, SetDraw, drawn_text}
@@ -141,18 +141,18 @@ abbrev pub IsDrawEnd : Draw → List ℕ → List ℕ → ℕ → Type 0 → Com
 IsDrawEnd asked image text budget failed f = IsEndBy (is_of_execution asked image) asked image text budget failed f
 
 -- what the files of the line give
-pub record AskedDraw (holds : List ℕ → List ℕ → Type 0) (begins : List ℕ → ℕ → List ℕ → Type 0) (asked : Draw) : Type 0 where
+pub record AskedDraw (files : FileRelations) (asked : Draw) : Type 0 where
   pub image : List ℕ
   pub input : List ℕ
   pub text : List ℕ
   pub budget : ℕ
-  pub given : IsGiven holds begins asked.run image input text budget
+  pub given : IsGiven files asked.run image input text budget
 
 -- a file of the line couldn't be read or lacks what is asked for, memory is refused, or the output failed
-abbrev pub IsFileEnd : (List ℕ → FileFault → Type 0) → Type 0 → Draw → Type 0 → CommandFailure → Type 0
-IsFileEnd lacks is_without asked failed f = IsFileFailure lacks (IsFileOfRun asked.run) is_without f ⊎ IsOutput failed f
+abbrev pub IsFileEnd : FileRelations → Type 0 → Draw → Type 0 → CommandFailure → Type 0
+IsFileEnd files is_without asked failed f = IsFileFailure files (IsFileOfRun asked.run) is_without f ⊎ IsOutput failed f
 
 -- why the command ends without a picture
-abbrev pub EndsDraw : (List ℕ → List ℕ → Type 0) → (List ℕ → ℕ → List ℕ → Type 0) → (List ℕ → FileFault → Type 0) → Draw → Type 0 → CommandFailure → Type 0
-EndsDraw holds begins lacks asked failed f =
-    IsFileEnd lacks (LacksSpurious holds begins asked.run.program) asked failed f ⊎ ((a : AskedDraw holds begins asked) × IsDrawEnd asked a.image a.text a.budget failed f)
+abbrev pub EndsDraw : FileRelations → Draw → Type 0 → CommandFailure → Type 0
+EndsDraw files asked failed f =
+    IsFileEnd files (LacksSpurious files asked.run.program) asked failed f ⊎ ((a : AskedDraw files asked) × IsDrawEnd asked a.image a.text a.budget failed f)

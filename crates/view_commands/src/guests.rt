@@ -9,7 +9,7 @@ ghost use Rattle.view_commands.specs.Views.{HasRounds, IsNamed, SetDraw, drawn_t
 use crate::ranges::access_ranges;
 use command_line::Draw;
 use drawing::{View, draw_run};
-use machine::{Observed, Observer, prepare};
+use machine::{Observed, prepare};
 use pages::Range;
 use program_files::{
     CommandFailure, ExitStatus, NamedBytes, NamingFault, Output, ProgressLine, RunFiles,
@@ -20,7 +20,7 @@ use std::sync::Wait;
 use std::thread::Threads;
 
 /// Runs a guest program, and prints a picture of what its run does to the bytes that the line names.
-pub(crate) fn draw_guest<O: Output, P: Observer + ProgressLine, R: Threads + Wait + Sync>(
+pub(crate) fn draw_guest<O: Output, P: ProgressLine, R: Threads + Wait + Sync>(
     threads: &R,
     alloc: Global,
     given: &RunFiles,
@@ -58,7 +58,7 @@ pub(crate) fn draw_guest<O: Output, P: Observer + ProgressLine, R: Threads + Wai
 }
 
 /// Runs the guest program, and prints a picture of what its run does to these ranges.
-fn draw_ranges<O: Output, P: Observer + ProgressLine, R: Threads + Wait + Sync>(
+fn draw_ranges<O: Output, P: ProgressLine, R: Threads + Wait + Sync>(
     threads: &R,
     alloc: Global,
     given: &RunFiles,

@@ -6,10 +6,8 @@ use crate::executions::draw_execution;
 use crate::guests::draw_guest;
 use command_line::Draw;
 use execution_commands::is_execution;
-use machine::Observer;
 use program_files::{
-    CommandFailure, ExitStatus, Files, Messages, Output, ProgressLine, RunFiles, read_run,
-    tell_of_decimals,
+    CommandFailure, ExitStatus, Output, ProgressLine, RunFiles, World, read_run, tell_of_decimals,
 };
 use std::alloc::Global;
 use std::sync::Wait;
@@ -23,47 +21,39 @@ use std::thread::Threads;
 /// `File` where one can't be read, and `NoSpurious`. Of a run, the refusals for the settings, the image and the plan in this order, and then
 /// `Naming` for bytes that can't be looked at. Of an execution `NoExecution`, `NoRounds` where the line has --from or --to, `Refused` for the
 /// number of workers and then for its guest, and `Naming`. The refusal of memory at any time, and `SinkFailed`.
-pub fn draw_command<
-    F: Files,
-    O: Output,
-    M: Messages,
-    P: Observer + ProgressLine,
-    R: Threads + Wait + Sync,
->(
+#[inline(never)]
+pub fn draw_command<W: World, O: Output, R: Threads + Wait + Sync>(
     threads: &R,
     alloc: Global,
-    files: &F,
+    world: &W,
     asked: &Draw<'_>,
-    progress: &mut P,
     out: &mut O,
-    messages: &M,
 ) -> Result<ExitStatus, CommandFailure>
     // All that was printed is the picture that the line asks for, or else what is found of the execution.
-    ensures draws { IfOk result (λ status.
-        (a : AskedDraw (F.holds files.now) (F.begins files.now) asked.now) ×
+    ensures draws { IfOk result (λ status. (a : AskedDraw (W.files world.now) asked.now) ×
         Draws asked.now a.image a.input a.text a.budget (O.took out.old) (O.took out.new) status ×
         O.is_out out.new) }
     // Else nothing was printed, or a beginning of that.
     ensures begun { OnErr result ((O.took out.new ≡ O.took out.old) ⊎
-        ((a : AskedDraw (F.holds files.now) (F.begins files.now) asked.now) ×
+        ((a : AskedDraw (W.files world.now) asked.now) ×
         IsBegun asked.now a.image a.input a.text a.budget (O.took out.old) (O.took out.new))) }
     // After a refusal for another cause than memory and the output nothing was printed.
     ensures unprinted { IfErr result (λ f.
         IsUnprinted (failure_number f) (O.took out.old) (O.took out.new)) }
-    ensures errors { IfErr result (EndsDraw (F.holds files.now) (F.begins files.now)
-        (F.lacks files.now) asked.now
+    ensures errors { IfErr result (EndsDraw (W.files world.now) asked.now
         (HasFailed O.failures O.is_stuck out.old out.new)) }
 {
-    let given = read_run(files, alloc, &asked.run)?;
-    let status = draw_given(threads, alloc, &given, asked, progress, out)?;
-    out.hand_on()?;
     let program = &asked.run.program;
-    tell_of_decimals(messages, &given.program.image, program.flat, &asked.seen);
+    let mut progress = world.progress(program.progress, program.rounds, 1, None);
+    let given = read_run(world, alloc, &asked.run)?;
+    let status = draw_given(threads, alloc, &given, asked, &mut progress, out)?;
+    out.hand_on()?;
+    tell_of_decimals(world, &given.program.image, program.flat, &asked.seen);
     Ok(status)
 }
 
 /// Does the same with what the files gave.
-fn draw_given<O: Output, P: Observer + ProgressLine, R: Threads + Wait + Sync>(
+fn draw_given<O: Output, P: ProgressLine, R: Threads + Wait + Sync>(
     threads: &R,
     alloc: Global,
     given: &RunFiles,

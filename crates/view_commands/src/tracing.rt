@@ -7,9 +7,9 @@ ghost use Rattle.program_files.specs.declared.exit_status.ExitStatus.TheVariants
 
 use command_line::Run;
 use drawing::trace_run;
-use machine::{Observed, Observer};
+use machine::Observed;
 use program_files::{
-    CommandFailure, ExitStatus, Files, Output, ProgressLine, RunFiles, guest_files, read_run,
+    CommandFailure, ExitStatus, Output, ProgressLine, RunFiles, World, guest_files, read_run,
     settings_of,
 };
 use std::alloc::Global;
@@ -21,40 +21,37 @@ use std::thread::Threads;
 /// # Errors
 ///
 /// `File` where a file can't be read, the refusals of the run, and `SinkFailed`.
-pub fn trace_command<F: Files, O: Output, P: Observer + ProgressLine, R: Threads + Wait + Sync>(
+#[inline(never)]
+pub fn trace_command<W: World, O: Output, R: Threads + Wait + Sync>(
     threads: &R,
     alloc: Global,
-    files: &F,
+    world: &W,
     run: &Run<'_>,
-    progress: &mut P,
     out: &mut O,
 ) -> Result<ExitStatus, CommandFailure>
     // All that was printed is the trace of the run that the line asks for, as JSON.
-    ensures traces { IfOk result (λ status.
-        (a : AskedRun (F.holds files.now) (F.begins files.now) run.now) ×
+    ensures traces { IfOk result (λ status. (a : AskedRun (W.files world.now) run.now) ×
         (O.took out.new ≡ O.took out.old ++ trace_events_after a.made.settings a.image a.input
-        a.made.plan) ×
-        O.is_out out.new × (status ≡ statuses.Done)) }
+        a.made.plan) × O.is_out out.new × (status ≡ statuses.Done)) }
     // Else nothing was printed, or a beginning of that.
     ensures begun { OnErr result ((O.took out.new ≡ O.took out.old) ⊎
-        ((a : AskedRun (F.holds files.now) (F.begins files.now) run.now) ×
-        BeganText (O.took out.old) (O.took out.new)
+        ((a : AskedRun (W.files world.now) run.now) × BeganText (O.took out.old) (O.took out.new)
         (trace_events_after a.made.settings a.image a.input a.made.plan))) }
     // After a refusal for another cause than memory and the output nothing was printed.
     ensures unprinted { IfErr result (λ f.
         IsUnprinted (failure_number f) (O.took out.old) (O.took out.new)) }
-    ensures errors { IfErr result (EndsFor (F.holds files.now) (F.begins files.now)
-        (F.lacks files.now) run.now
+    ensures errors { IfErr result (EndsFor (W.files world.now) run.now
         (HasFailed O.failures O.is_stuck out.old out.new)) }
 {
-    let given = read_run(files, alloc, run)?;
-    trace_given(threads, alloc, &given, run, progress, out)?;
+    let mut progress = world.progress(run.program.progress, run.program.rounds, 1, None);
+    let given = read_run(world, alloc, run)?;
+    trace_given(threads, alloc, &given, run, &mut progress, out)?;
     out.hand_on()?;
     Ok(ExitStatus::Done)
 }
 
 /// Does the same with what the files gave.
-fn trace_given<O: Output, P: Observer + ProgressLine, R: Threads + Wait + Sync>(
+fn trace_given<O: Output, P: ProgressLine, R: Threads + Wait + Sync>(
     threads: &R,
     alloc: Global,
     given: &RunFiles,

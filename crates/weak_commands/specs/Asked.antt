@@ -1,10 +1,10 @@
--- The search for missing fences that a line asks for, and why it isn't done. `holds` and `begins` say what files hold, `lacks` and
--- `wasnt_given` that one couldn't be read or written, `failed` that the output failed, `comes_to guest departing i e` that the execution of
--- number i of the guest that departs so comes to e, and `finds` that a search by some settings finds a table, with these executions.
+-- The search for missing fences that a line asks for, and why it isn't done. `wasnt_given` says that a file couldn't be written, and `failed`
+-- that the output failed.
 use Rattle.std.specs.Prelude.{◌≡◌, ◌⊎◌, ℕ, if◌then◌else◌, List, map, false, true, Option, Some, None, is_some, option_map}
 use Rattle.command_line.specs.declared.settings.Fences.{Fences}
 use Rattle.execution_file.specs.declared.file.ExecutionFile.{ExecutionFile}
 use Rattle.weak_commands.specs.Saved.{IsUnsavedIn}
+use Rattle.weak_commands.specs.Relations.{FenceRelations}
 use Rattle.weak_commands.specs.Places.{IsAssumed, IsUnplaced}
 use Rattle.program_files.specs.declared.failure.CommandFailure.{CommandFailure}
 use Rattle.program_files.specs.declared.failure.CommandFailure.TheVariants.{Accept}
@@ -13,17 +13,14 @@ use Rattle.fence_finder.specs.declared.settings.FenceSettings.{FenceSettings}
 use Rattle.fence_table.specs.Accepting.{accepted_in}
 use Rattle.fence_table.specs.declared.accept_error.AcceptError.TheVariants as accepting
 use Rattle.fence_table.specs.declared.fence_table.FenceTable.{FenceTable}
-use Rattle.fence_trials.specs.declared.departing.Departing.{Departing}
-use Rattle.fence_trials.specs.declared.guest.FenceGuest.{FenceGuest}
 use Rattle.hunt_commands.specs.Asked.{IsRefusedSo}
 use Rattle.hunt_commands.specs.Settings.{HasNumbers, HasRanges}
 use Rattle.hunter.specs.Hunts.{hunt_fault}
 use Rattle.hunter.specs.declared.settings.HuntSettings.{HuntSettings}
-use Rattle.plan_hunt.specs.Endings.{Ended}
 use Rattle.plan_hunt.specs.declared.extent.Until.TheVariants.{Bad, Done}
 use Rattle.program_files.specs.Asked.{IsFileOfProgram, IsInputOf, IsProgramOf, LacksSpurious}
 use Rattle.program_files.specs.Failures.{IsCutEnd, IsFileFailure}
-use Rattle.program_files.specs.declared.files.FileFault.{FileFault}
+use Rattle.program_files.specs.Relations.{FileRelations}
 
 -- ---- what is searched
 
@@ -54,27 +51,23 @@ pub record IsAskedSearch (asked : Fences) (accepted image : List ℕ) (s : Fence
   pub keeps : s.keeps ≡ is_some asked.keep
 
 -- a search by what the line says, with this list of places: its settings, its table and the executions that it keeps
-pub record SetSearch (comes_to : FenceGuest → Departing → ℕ → Ended → Type 0)
-    (finds : FenceSettings → List ℕ → List ℕ → FenceTable → List ExecutionFile → Type 0)
-    (asked : Fences) (accepted image input : List ℕ) : Type 0 where
+pub record SetSearch (fences : FenceRelations) (asked : Fences) (accepted image input : List ℕ) : Type 0 where
   pub settings : FenceSettings
   pub table : FenceTable
   pub executions : List ExecutionFile
   pub set : IsAskedSearch asked accepted image settings
   pub searched : IsSearched settings.hunt image input table
-  pub told : IsSearchedBy comes_to settings image input table
-  pub found : finds settings image input table executions
+  pub told : IsSearchedBy fences.comes_to settings image input table
+  pub found : fences.finds settings image input table executions
 
 -- the search that a line asks for
-pub record AskedSearch (holds : List ℕ → List ℕ → Type 0) (begins : List ℕ → ℕ → List ℕ → Type 0)
-    (comes_to : FenceGuest → Departing → ℕ → Ended → Type 0)
-    (finds : FenceSettings → List ℕ → List ℕ → FenceTable → List ExecutionFile → Type 0) (asked : Fences) : Type 0 where
+pub record AskedSearch (files : FileRelations) (fences : FenceRelations) (asked : Fences) : Type 0 where
   pub image : List ℕ
   pub input : List ℕ
   pub accepted : List ℕ
-  pub given : IsProgramOf holds begins asked.search.program image input
-  pub list : IsInputOf holds (accept_of asked) accepted
-  pub made : SetSearch comes_to finds asked accepted image input
+  pub given : IsProgramOf files asked.search.program image input
+  pub list : IsInputOf files (accept_of asked) accepted
+  pub made : SetSearch fences asked accepted image input
 
 -- ---- refusals
 
@@ -101,24 +94,24 @@ abbrev pub IsSearchEnd : Fences → List ℕ → List ℕ → Type 0 → Command
 IsSearchEnd asked accepted image failed f = IsCutEnd failed f ⊎ IsRefusedSearch asked image failed f ⊎ IsUnlisted accepted f ⊎ IsUnplacedSearch asked image f
 
 -- the search that a line asks for ends so
-pub record EndsSearch (holds : List ℕ → List ℕ → Type 0) (begins : List ℕ → ℕ → List ℕ → Type 0) (asked : Fences) (failed : Type 0) (f : CommandFailure) : Type 0 where
+pub record EndsSearch (files : FileRelations) (asked : Fences) (failed : Type 0) (f : CommandFailure) : Type 0 where
   pub image : List ℕ
   pub input : List ℕ
   pub accepted : List ℕ
-  pub given : IsProgramOf holds begins asked.search.program image input
-  pub list : IsInputOf holds (accept_of asked) accepted
+  pub given : IsProgramOf files asked.search.program image input
+  pub list : IsInputOf files (accept_of asked) accepted
   pub ends : IsSearchEnd asked accepted image failed f
 
 -- a file that is named couldn't be read, memory is refused, or the output failed
-abbrev pub IsWorldEnd : (List ℕ → FileFault → Type 0) → (List ℕ → Type 0) → Type 0 → Type 0 → CommandFailure → Type 0
-IsWorldEnd lacks is_named is_without failed f = IsFileFailure lacks is_named is_without f ⊎ IsCutEnd failed f
+abbrev pub IsWorldEnd : FileRelations → (List ℕ → Type 0) → Type 0 → Type 0 → CommandFailure → Type 0
+IsWorldEnd files is_named is_without failed f = IsFileFailure files is_named is_without f ⊎ IsCutEnd failed f
 
 -- the files that the line names: the program's, and the list
 abbrev pub IsFileOf : Fences → List ℕ → Type 0
 IsFileOf asked path = IsFileOfProgram asked.search.program path ⊎ (accept_of asked ≡ Some path)
 
 -- why the command ends without what it was asked for
-abbrev pub EndsFences : (List ℕ → List ℕ → Type 0) → (List ℕ → ℕ → List ℕ → Type 0) → (List ℕ → FileFault → Type 0) → (List ℕ → Type 0) → Fences → Type 0 → CommandFailure → Type 0
-EndsFences holds begins lacks wasnt_given asked failed f =
-    IsWorldEnd lacks (IsFileOf asked) (LacksSpurious holds begins asked.search.program) failed f ⊎ EndsSearch holds begins asked failed f
+abbrev pub EndsFences : FileRelations → (List ℕ → Type 0) → Fences → Type 0 → CommandFailure → Type 0
+EndsFences files wasnt_given asked failed f =
+    IsWorldEnd files (IsFileOf asked) (LacksSpurious files asked.search.program) failed f ⊎ EndsSearch files asked failed f
     ⊎ IsUnsavedIn wasnt_given (keep_of asked) f

@@ -1,6 +1,5 @@
--- The execution of a guest program that a line asks for, and why it isn't printed. `holds` and `begins` say what files hold, `lacks` that
--- one couldn't be read for a fault, `failed` that the output failed, and `makes` that a file says the execution of a number, of so many steps
--- at most.
+-- The execution of a guest program that a line asks for, and why it isn't printed. `failed` says that the output failed, and
+-- `makes` that a file says the execution of a number, of so many steps at most.
 use Rattle.std.specs.Prelude.{◌≡◌, ◌⊎◌, ℕ, List, Bool, true, false, Option, Some, None}
 use Rattle.command_line.specs.declared.settings.Execution.{Execution}
 use Rattle.command_line.specs.declared.settings.Program.{Program}
@@ -19,7 +18,8 @@ use Rattle.hunter.specs.declared.settings.HuntSettings.{HuntSettings}
 use Rattle.machine.specs.Runs.{after_run}
 use Rattle.program_files.specs.Asked.{IsFileOfRun, IsGiven, IsProgramOf, LacksSpurious, RefusedRun, SetRun}
 use Rattle.program_files.specs.Failures.{IsCutEnd, IsFileFailure}
-use Rattle.program_files.specs.declared.files.FileFault.{FileFault}
+use Rattle.program_files.specs.Relations.{FileRelations}
+use Rattle.weak_commands.specs.Relations.{MakeRelation}
 use Rattle.weak_hunter.specs.WeakExecutions.{IsAllowedExecution, IsUnmade}
 use Rattle.weak_hunter.specs.declared.error.WeakHuntError.{WeakHuntError}
 use Rattle.weak_hunter.specs.declared.error.WeakHuntError.TheVariants.{Hunt}
@@ -37,49 +37,45 @@ pub record IsRunOf (program : Program) (text : List ℕ) (budget : ℕ) (image i
   pub says : IsFileOf made.settings image input (after_run made.settings image input made.plan) file
 
 -- the file says the run of a line
-pub record IsRun (holds : List ℕ → List ℕ → Type 0) (begins : List ℕ → ℕ → List ℕ → Type 0) (run : Run) (file : Recorded) : Type 0 where
+pub record IsRun (files : FileRelations) (run : Run) (file : Recorded) : Type 0 where
   pub image : List ℕ
   pub input : List ℕ
   pub text : List ℕ
   pub budget : ℕ
-  pub given : IsGiven holds begins run image input text budget
+  pub given : IsGiven files run image input text budget
   pub says : IsRunOf run.program text budget image input file
 
 -- the file says the execution of a number of the program, of so many steps at most, which RVWMO allows
-pub record IsNumbered (holds : List ℕ → List ℕ → Type 0) (begins : List ℕ → ℕ → List ℕ → Type 0)
-    (makes : HuntSettings → List ℕ → List ℕ → ℕ → ℕ → Recorded → Type 0) (run : Run) (steps number : ℕ) (file : Recorded) : Type 0 where
+pub record IsNumbered (files : FileRelations) (makes : MakeRelation) (run : Run) (steps number : ℕ) (file : Recorded) : Type 0 where
   pub image : List ℕ
   pub input : List ℕ
-  pub given : IsProgramOf holds begins run.program image input
+  pub given : IsProgramOf files run.program image input
   pub settings : HuntSettings
   pub program : IsOfProgram run.program run.plan.seed settings
   pub allowed : IsAllowedExecution settings image input file
   pub made : makes settings image input steps number file
 
 -- the one or the other
-abbrev pub IsAskedBy : Option ℕ → (List ℕ → List ℕ → Type 0) → (List ℕ → ℕ → List ℕ → Type 0) →
-    (HuntSettings → List ℕ → List ℕ → ℕ → ℕ → Recorded → Type 0) → Execution → Recorded → Type 0
-IsAskedBy None holds begins makes asked file = IsRun holds begins asked.run file
-IsAskedBy (Some number) holds begins makes asked file = IsNumbered holds begins makes asked.run asked.steps number file
+abbrev pub IsAskedBy : Option ℕ → FileRelations → MakeRelation → Execution → Recorded → Type 0
+IsAskedBy None files makes asked file = IsRun files asked.run file
+IsAskedBy (Some number) files makes asked file = IsNumbered files makes asked.run asked.steps number file
 
-abbrev pub IsAskedFile : (List ℕ → List ℕ → Type 0) → (List ℕ → ℕ → List ℕ → Type 0) →
-    (HuntSettings → List ℕ → List ℕ → ℕ → ℕ → Recorded → Type 0) → Execution → Recorded → Type 0
-IsAskedFile holds begins makes asked file = IsAskedBy (number_of asked.weak asked.run.plan.number) holds begins makes asked file
+abbrev pub IsAskedFile : FileRelations → MakeRelation → Execution → Recorded → Type 0
+IsAskedFile files makes asked file = IsAskedBy (number_of asked.weak asked.run.plan.number) files makes asked file
 
 -- the execution that a line asks for
-pub record AskedExecution (holds : List ℕ → List ℕ → Type 0) (begins : List ℕ → ℕ → List ℕ → Type 0)
-    (makes : HuntSettings → List ℕ → List ℕ → ℕ → ℕ → Recorded → Type 0) (asked : Execution) : Type 0 where
+pub record AskedExecution (files : FileRelations) (makes : MakeRelation) (asked : Execution) : Type 0 where
   pub file : Recorded
-  pub is_asked : IsAskedFile holds begins makes asked file
+  pub is_asked : IsAskedFile files makes asked file
 
 -- ---- refusals
 
 -- the execution of a number is refused: for settings that are out of range, then for the image, for want of memory, or since the checker
 -- doesn't allow it
-pub record RefusedNumber (holds : List ℕ → List ℕ → Type 0) (begins : List ℕ → ℕ → List ℕ → Type 0) (run : Run) (number : ℕ) (f : CommandFailure) : Type 0 where
+pub record RefusedNumber (files : FileRelations) (run : Run) (number : ℕ) (f : CommandFailure) : Type 0 where
   pub image : List ℕ
   pub input : List ℕ
-  pub given : IsProgramOf holds begins run.program image input
+  pub given : IsProgramOf files run.program image input
   pub settings : HuntSettings
   pub program : IsOfProgram run.program run.plan.seed settings
   pub error : WeakHuntError
@@ -90,16 +86,16 @@ pub record RefusedNumber (holds : List ℕ → List ℕ → Type 0) (begins : Li
   pub reason : shrink_fault settings ≡ None → IsUnmade settings image number error
 
 -- the run of a line is refused, or the execution of its number
-abbrev pub IsRefused : Option ℕ → (List ℕ → List ℕ → Type 0) → (List ℕ → ℕ → List ℕ → Type 0) → Run → CommandFailure → Type 0
-IsRefused None holds begins run f = RefusedRun holds begins run ⊥ f
-IsRefused (Some number) holds begins run f = RefusedNumber holds begins run number f
+abbrev pub IsRefused : Option ℕ → FileRelations → Run → CommandFailure → Type 0
+IsRefused None files run f = RefusedRun files run ⊥ f
+IsRefused (Some number) files run f = RefusedNumber files run number f
 
 -- why the execution isn't made: a file of the line couldn't be read, memory is refused, or what is asked for is
-abbrev pub IsUnmadeFile : (List ℕ → List ℕ → Type 0) → (List ℕ → ℕ → List ℕ → Type 0) → (List ℕ → FileFault → Type 0) → Execution → CommandFailure → Type 0
-IsUnmadeFile holds begins lacks asked f =
-    IsFileFailure lacks (IsFileOfRun asked.run) (LacksSpurious holds begins asked.run.program) f
-    ⊎ IsRefused (number_of asked.weak asked.run.plan.number) holds begins asked.run f
+abbrev pub IsUnmadeFile : FileRelations → Execution → CommandFailure → Type 0
+IsUnmadeFile files asked f =
+    IsFileFailure files (IsFileOfRun asked.run) (LacksSpurious files asked.run.program) f
+    ⊎ IsRefused (number_of asked.weak asked.run.plan.number) files asked.run f
 
 -- why the command ends without it: it isn't made, memory is refused, or the output failed
-abbrev pub EndsExecution : (List ℕ → List ℕ → Type 0) → (List ℕ → ℕ → List ℕ → Type 0) → (List ℕ → FileFault → Type 0) → Execution → Type 0 → CommandFailure → Type 0
-EndsExecution holds begins lacks asked failed f = IsUnmadeFile holds begins lacks asked f ⊎ IsCutEnd failed f
+abbrev pub EndsExecution : FileRelations → Execution → Type 0 → CommandFailure → Type 0
+EndsExecution files asked failed f = IsUnmadeFile files asked f ⊎ IsCutEnd failed f

@@ -3,3 +3,4 @@ pub mod Places
 pub mod Saved
 pub mod Asked
 pub mod AskedExecutions
+pub mod Relations

@@ -12,9 +12,8 @@ use command_line::{Execution, Run};
 use execution_makers::execution_of_run;
 use execution_scripts::{ExecutionFile, write_execution};
 use hunt_commands::program_settings;
-use machine::Observer;
 use program_files::{
-    CommandFailure, ExitStatus, Files, Output, ProgressLine, RunFiles, read_program, read_run,
+    CommandFailure, ExitStatus, Output, ProgressLine, RunFiles, World, read_program, read_run,
     settings_of,
 };
 use std::alloc::Global;
@@ -27,62 +26,51 @@ use std::thread::Threads;
 ///
 /// `File` where one can't be read, and `NoSpurious`; the refusals of a run; `Hunt` where the execution of a number is refused, for the settings
 /// and then for the image, or isn't confirmed; `SinkFailed`; the refusal of memory at any time.
-pub fn execution_command<
-    F: Files,
-    O: Output,
-    W: WeakExecutions,
-    P: Observer + ProgressLine,
-    R: Threads + Wait + Sync,
->(
+#[inline(never)]
+pub fn execution_command<W: World, M: WeakExecutions, O: Output, R: Threads + Wait + Sync>(
     threads: &R,
     alloc: Global,
-    files: &F,
-    weakly: &W,
+    world: &W,
+    maker: &M,
     asked: &Execution<'_>,
-    progress: &mut P,
     out: &mut O,
 ) -> Result<ExitStatus, CommandFailure>
     // All that was printed is the text of the execution that the line asks for.
     ensures prints { IfOk result (λ status.
-        (a : AskedExecution (F.holds files.now) (F.begins files.now) W.makes asked.now) ×
+        (a : AskedExecution (W.files world.now) M.makes asked.now) ×
         (O.took out.new ≡ O.took out.old ++ execution.spelled a.file) × O.is_out out.new ×
         (status ≡ statuses.Done)) }
     // Else nothing was printed, or a beginning of that.
     ensures begun { OnErr result ((O.took out.new ≡ O.took out.old) ⊎
-        ((a : AskedExecution (F.holds files.now) (F.begins files.now) W.makes asked.now) ×
+        ((a : AskedExecution (W.files world.now) M.makes asked.now) ×
         BeganText (O.took out.old) (O.took out.new) (execution.spelled a.file))) }
-    ensures errors { IfErr result (EndsExecution (F.holds files.now) (F.begins files.now)
-        (F.lacks files.now) asked.now
+    ensures errors { IfErr result (EndsExecution (W.files world.now) asked.now
         (HasFailed O.failures O.is_stuck out.old out.new)) }
 {
-    let file = asked_execution(threads, alloc, files, weakly, asked, progress)?;
+    let program = &asked.run.program;
+    let mut progress = world.progress(program.progress, program.rounds, 1, None);
+    let file = asked_execution(threads, alloc, world, maker, asked, &mut progress)?;
     write_execution(alloc, &file, out)?;
     out.hand_on()?;
     Ok(ExitStatus::Done)
 }
 
 /// The execution that the line asks for.
-fn asked_execution<
-    F: Files,
-    W: WeakExecutions,
-    P: Observer + ProgressLine,
-    R: Threads + Wait + Sync,
->(
+fn asked_execution<W: World, M: WeakExecutions, R: Threads + Wait + Sync>(
     threads: &R,
     alloc: Global,
-    files: &F,
-    weakly: &W,
+    world: &W,
+    maker: &M,
     asked: &Execution<'_>,
-    progress: &mut P,
+    progress: &mut W::Progress,
 ) -> Result<ExecutionFile, CommandFailure>
     ensures asked { IfOk result (λ f.
-        IsAskedFile (F.holds files.now) (F.begins files.now) W.makes asked.now (as_recorded f)) }
-    ensures errors { IfErr result (IsUnmadeFile (F.holds files.now) (F.begins files.now)
-        (F.lacks files.now) asked.now) }
+        IsAskedFile (W.files world.now) M.makes asked.now (as_recorded f)) }
+    ensures errors { IfErr result (IsUnmadeFile (W.files world.now) asked.now) }
 {
     match number_of(asked) {
-        Some(number) => numbered_execution(alloc, files, weakly, asked, number),
-        None => Ok(run_as_execution(threads, alloc, files, &asked.run, progress)?),
+        Some(number) => numbered_execution(alloc, world, maker, asked, number),
+        None => Ok(run_as_execution(threads, alloc, world, &asked.run, progress)?),
     }
 }
 
@@ -98,49 +86,47 @@ fn number_of(asked: &Execution<'_>) -> Option<u32>
 }
 
 /// The execution of a number of the guest program, of as many steps at most as the line says.
-fn numbered_execution<F: Files, W: WeakExecutions>(
+fn numbered_execution<W: World, M: WeakExecutions>(
     alloc: Global,
-    files: &F,
-    weakly: &W,
+    world: &W,
+    maker: &M,
     asked: &Execution<'_>,
     number: u32,
 ) -> Result<ExecutionFile, CommandFailure>
     ensures numbered { IfOk result (λ f.
-        IsNumbered (F.holds files.now) (F.begins files.now) W.makes asked.now.run asked.now.steps
-        number
+        IsNumbered (W.files world.now) M.makes asked.now.run asked.now.steps number
         (as_recorded f)) }
     ensures errors { IfErr result (λ f.
-        IsFileFailure (F.lacks files.now) (IsFileOfRun asked.now.run)
-        (LacksSpurious (F.holds files.now) (F.begins files.now) asked.now.run.program) f ⊎
-        RefusedNumber (F.holds files.now) (F.begins files.now) asked.now.run number f) }
+        IsFileFailure (W.files world.now) (IsFileOfRun asked.now.run)
+        (LacksSpurious (W.files world.now) asked.now.run.program) f ⊎
+        RefusedNumber (W.files world.now) asked.now.run number f) }
 {
     let program = &asked.run.program;
-    let given = read_program(files, alloc, program)?;
+    let given = read_program(world, alloc, program)?;
     let settings = program_settings(alloc, program, asked.run.plan.seed);
     let (image, input) = (given.image.as_slice(), given.input.as_slice());
-    Ok(weakly.execute_weakly(alloc, image, input, &settings, asked.steps, number)?)
+    Ok(maker.execute_weakly(alloc, image, input, &settings, asked.steps, number)?)
 }
 
 /// Runs the guest program, and gives the run as an execution.
-fn run_as_execution<F: Files, P: Observer + ProgressLine, R: Threads + Wait + Sync>(
+fn run_as_execution<W: World, R: Threads + Wait + Sync>(
     threads: &R,
     alloc: Global,
-    files: &F,
+    world: &W,
     run: &Run<'_>,
-    progress: &mut P,
+    progress: &mut W::Progress,
 ) -> Result<ExecutionFile, CommandFailure>
-    ensures run { IfOk result (λ f.
-        IsRun (F.holds files.now) (F.begins files.now) run.now (as_recorded f)) }
-    ensures errors { IfErr result (λ f. IsFileFailure (F.lacks files.now) (IsFileOfRun run.now)
-        (LacksSpurious (F.holds files.now) (F.begins files.now) run.now.program) f ⊎
-        RefusedRun (F.holds files.now) (F.begins files.now) run.now ⊥ f) }
+    ensures run { IfOk result (λ f. IsRun (W.files world.now) run.now (as_recorded f)) }
+    ensures errors { IfErr result (λ f. IsFileFailure (W.files world.now) (IsFileOfRun run.now)
+        (LacksSpurious (W.files world.now) run.now.program) f ⊎
+        RefusedRun (W.files world.now) run.now ⊥ f) }
 {
-    let given = read_run(files, alloc, run)?;
+    let given = read_run(world, alloc, run)?;
     run_given(threads, alloc, &given, run, progress)
 }
 
 /// Does the same with what the files gave.
-fn run_given<P: Observer + ProgressLine, R: Threads + Wait + Sync>(
+fn run_given<P: ProgressLine, R: Threads + Wait + Sync>(
     threads: &R,
     alloc: Global,
     given: &RunFiles,

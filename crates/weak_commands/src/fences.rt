@@ -9,6 +9,7 @@ ghost use Rattle.hunt_commands.specs.Settings.{HasNumbers};
 ghost use Rattle.program_files.specs.Asked.{IsInputOf};
 ghost use Rattle.program_files.specs.Failures.{HasFailed, IsFileFailure};
 
+use crate::finds::FenceFinds;
 use crate::keeping::keep;
 use crate::places::fences_of;
 use crate::searches::FenceSearches;
@@ -21,8 +22,8 @@ use hunt_commands::{named_in, refused_for, settings_of, tell_decimals};
 use hunter::HuntSettings;
 use plan_hunt::Until;
 use program_files::{
-    CommandFailure, ExitStatus, Files, Messages, NamedBytes, Output, ProgramFiles, ProgressLine,
-    read_file, read_program,
+    CommandFailure, ExitStatus, NamedBytes, Output, ProgramFiles, ProgressLine, World, read_file,
+    read_program,
 };
 use std::alloc::Global;
 use std::sync::Wait;
@@ -36,69 +37,60 @@ use std::thread::Threads;
 /// `File` where one can't be read, and `NoSpurious`; `Accept` for the list of places that are accepted; `Hunt` for the settings, then `NoPlace`
 /// for the first word that names no instruction of an image that is taken; `Hunt` for the image, and for an execution that isn't confirmed, and
 /// `Naming` for bytes that can't be looked at; then `Unwritten`, and `SinkFailed`; the refusal of memory at any time.
-pub fn fences_command<
-    F: Files,
-    O: Output,
-    M: Messages,
-    W: FenceSearches,
-    P: ProgressLine,
-    R: Threads + Wait + Sync,
->(
+#[inline(never)]
+pub fn fences_command<W: FenceSearches + Copy, O: Output, R: Threads + Wait + Sync>(
     threads: &R,
     alloc: Global,
-    files: &mut F,
-    searcher: &W,
+    world: &mut W,
     asked: &Fences<'_>,
-    progress: &P,
     out: &mut O,
-    messages: &M,
 ) -> Result<ExitStatus, CommandFailure>
     // All that was printed is the table of the search that the line asks for, of which the status is, and the executions that it keeps were
     // written to the files of the folder that the line names.
     ensures searches { IfOk result (λ status.
-        (a : AskedSearch (F.holds files.old) (F.begins files.old) W.comes_to W.finds asked.now) ×
+        (a : AskedSearch (W.files world.old) W.fences asked.now) ×
         (O.took out.new ≡ O.took out.old ++ fences_text a.made.table) × O.is_out out.new ×
         (status ≡ fences_status asked.now.fail_on a.made.table) ×
-        AreSaved F.was_given (keep_of asked.now) (map as_recorded a.made.executions) files.old
-        files.new) }
+        AreSaved W.was_given (keep_of asked.now) (map as_recorded a.made.executions)
+        world.old world.new) }
     // Else nothing was printed, or a beginning of such a table.
     ensures begun { OnErr result ((O.took out.new ≡ O.took out.old) ⊎
-        ((a : AskedSearch (F.holds files.old) (F.begins files.old) W.comes_to W.finds asked.now) ×
+        ((a : AskedSearch (W.files world.old) W.fences asked.now) ×
         BeganText (O.took out.old) (O.took out.new) (fences_text a.made.table))) }
     // Where the line names no folder, no file was written.
-    ensures unasked { asked.now.keep ≡ None → files.new ≡ files.old }
-    ensures errors { IfErr result (EndsFences (F.holds files.old) (F.begins files.old)
-        (F.lacks files.old)
-        (F.wasnt_given files.new) asked.now (HasFailed O.failures O.is_stuck out.old out.new)) }
+    ensures unasked { asked.now.keep ≡ None → world.new ≡ world.old }
+    ensures errors { IfErr result (EndsFences (W.files world.old)
+        (W.wasnt_given world.new) asked.now (HasFailed O.failures O.is_stuck out.old out.new)) }
 {
-    let given = read_program(files, alloc, &asked.search.program)?;
-    let list = read_list(files, alloc, asked.accept)?;
-    let found = search_given(
-        threads, alloc, searcher, &given, &list, asked, progress, out, messages,
-    )?;
-    keep(files, alloc, asked.keep, &found.executions)?;
+    let program = &asked.search.program;
+    let (told, workers) = (program.progress, program.workers);
+    let progress = world.progress(told, asked.plans, workers, asked.seconds);
+    let given = read_program(world, alloc, program)?;
+    let list = read_list(world, alloc, asked.accept)?;
+    let found = search_given(threads, alloc, world, &progress, &given, &list, asked, out)?;
+    keep(world, alloc, asked.keep, &found.executions)?;
     out.hand_on()?;
     // What was asked for is out.
-    let _untold = tell_missing(alloc, asked, &found, messages);
-    tell_running(asked, &found.table, messages);
-    tell_compared(found.compared, messages);
-    tell_decimals(&asked.search, &given, messages);
+    let _untold = tell_missing(alloc, asked, &found, world);
+    tell_running(asked, &found.table, world);
+    tell_compared(found.compared, world);
+    tell_decimals(&asked.search, &given, world);
     Ok(fences_status(asked.fail_on, &found.table))
 }
 
 /// The text of the list of places that are accepted; without a file it is empty.
-fn read_list<F: Files>(
-    files: &F,
+fn read_list<W: World>(
+    world: &W,
     alloc: Global,
     path: Option<&str>,
 ) -> Result<Vec<u8>, CommandFailure>
     ensures list { IfOk result (λ bytes.
-        IsInputOf (F.holds files.now) (option_map (λ s. s.now) path.entry) bytes.items) }
-    ensures errors { IfErr result (IsFileFailure (F.lacks files.now)
+        IsInputOf (W.files world.now) (option_map (λ s. s.now) path.entry) bytes.items) }
+    ensures errors { IfErr result (IsFileFailure (W.files world.now)
         (λ named. option_map (λ s. s.now) path.entry ≡ Some named) ⊥) }
 {
     match path {
-        Some(path) => read_file(files, alloc, path),
+        Some(path) => read_file(world, alloc, path),
         None => Ok(Vec::new(alloc)),
     }
 }
@@ -121,30 +113,23 @@ fn with_end(asked: &Fences<'_>, settings: HuntSettings) -> HuntSettings
 }
 
 /// Searches in what the files gave, and prints the table.
-fn search_given<
-    O: Output,
-    M: Messages,
-    W: FenceSearches,
-    P: ProgressLine,
-    R: Threads + Wait + Sync,
->(
+fn search_given<W: FenceSearches + Copy, O: Output, R: Threads + Wait + Sync>(
     threads: &R,
     alloc: Global,
-    searcher: &W,
+    world: &W,
+    progress: &W::Progress,
     files: &ProgramFiles,
     list: &[u8],
     asked: &Fences<'_>,
-    progress: &P,
     out: &mut O,
-    messages: &M,
 ) -> Result<FoundFences, CommandFailure>
     ensures searches { IfOk result (λ f.
-        (s : SetSearch W.comes_to W.finds asked.now list.now files.now.image.items
+        (s : SetSearch W.fences asked.now list.now files.now.image.items
         files.now.input.items) ×
         (O.took out.new ≡ O.took out.old ++ fences_text s.table) × (f.table ≡ s.table) ×
         (f.executions.items ≡ s.executions)) }
     ensures begun { OnErr result ((O.took out.new ≡ O.took out.old) ⊎
-        ((s : SetSearch W.comes_to W.finds asked.now list.now files.now.image.items
+        ((s : SetSearch W.fences asked.now list.now files.now.image.items
         files.now.input.items) ×
         BeganText (O.took out.old) (O.took out.new) (fences_text s.table))) }
     ensures errors { IfErr result (IsSearchEnd asked.now list.now files.now.image.items
@@ -161,7 +146,7 @@ fn search_given<
         false,
     )?;
     let hunt = with_end(asked, hunt);
-    let assumed = fences_of(alloc, &asked.as_if_fence, &hunt, &files.image, messages)?;
+    let assumed = fences_of(alloc, &asked.as_if_fence, &hunt, &files.image, world)?;
     let settings = FenceSettings {
         hunt,
         steps: asked.steps,
@@ -176,7 +161,8 @@ fn search_given<
         }
         None => {
             let (image, input) = (files.image.as_slice(), files.input.as_slice());
-            let answer = searcher.search(threads, alloc, image, input, settings, out);
+            let finds = FenceFinds::new(alloc, asked, progress, world)?;
+            let answer = world.search_fences(threads, alloc, image, input, settings, &finds, out);
             progress.end();
             Ok(answer?)
         }

@@ -6,38 +6,36 @@ use command_line::Fences;
 use execution_scripts::ExecutionFile;
 use fence_finder::FenceObserver;
 use fence_table::NamedGap;
-use program_files::{Files, Messages, ProgressLine};
+use program_files::{ProgressLine, World};
 use std::alloc::{AllocError, Global};
 use std::sync::atomic::{AtomicUsize, Ordering};
 
 /// Says on standard error the line that repeats an execution at each new place, where the line asks for progress, writes the execution to a
 /// file, where it names a folder, and tells who looks on of everything.
 #[derive(Drop)]
-pub struct FenceFinds<'a, P, M, F> {
+pub struct FenceFinds<'a, P, W> {
     alloc: Global,
     /// None where nothing is told.
     repeating: Option<Repeating>,
     progress: &'a P,
-    messages: &'a M,
-    files: F,
+    world: &'a W,
     /// Where executions are kept, if they are.
     folder: Option<&'a str>,
     /// How many were kept.
     kept: AtomicUsize,
 }
 
-impl<'a, P: FenceObserver + ProgressLine, M: Messages, F: Files + Copy> FenceFinds<'a, P, M, F> {
+impl<'a, P: ProgressLine, W: World + Copy> FenceFinds<'a, P, W> {
     /// The finds of a search that begins now.
     ///
     /// # Errors
     ///
     /// The allocator's alone.
-    pub fn new(
+    pub(crate) fn new(
         alloc: Global,
         asked: &Fences<'a>,
         progress: &'a P,
-        messages: &'a M,
-        files: F,
+        world: &'a W,
     ) -> Result<Self, AllocError> {
         let repeating = if asked.search.program.progress {
             Some(Repeating::of(alloc, asked)?)
@@ -48,8 +46,7 @@ impl<'a, P: FenceObserver + ProgressLine, M: Messages, F: Files + Copy> FenceFin
             alloc,
             repeating,
             progress,
-            messages,
-            files,
+            world,
             folder: asked.keep,
             kept: AtomicUsize::new(0),
         })
@@ -61,24 +58,14 @@ impl<'a, P: FenceObserver + ProgressLine, M: Messages, F: Files + Copy> FenceFin
             return;
         }
         let number = self.kept.fetch_add(1, Ordering::SeqCst).saturating_add(1);
-        let mut files = self.files;
-        let _unwritten = keep_found(&mut files, self.alloc, folder, number, execution);
+        let mut world = *self.world;
+        let _unwritten = keep_found(&mut world, self.alloc, folder, number, execution);
     }
 }
 
-impl<P: FenceObserver + ProgressLine, M, F> ProgressLine for FenceFinds<'_, P, M, F> {
-    /// How many there are in all is known before.
-    fn expect(&mut self, _all: u32) {}
-
-    fn end(&self) {
-        self.progress.end();
-    }
-}
-
-impl<P: FenceObserver + ProgressLine, M: Messages, F: Files + Copy> FenceObserver
-    for FenceFinds<'_, P, M, F> {
-    fn before_block(&self, done: u32, failing: usize) -> u32 {
-        self.progress.before_block(done, failing)
+impl<P: ProgressLine, W: World + Copy> FenceObserver for FenceFinds<'_, P, W> {
+    fn before_block(&self, _done: u32, failing: usize) -> u32 {
+        self.progress.before_numbers(failing)
     }
 
     fn has_time(&self) -> bool {
@@ -90,7 +77,7 @@ impl<P: FenceObserver + ProgressLine, M: Messages, F: Files + Copy> FenceObserve
     }
 
     fn after_rounds(&self, rounds: u32) {
-        self.progress.after_rounds(rounds);
+        self.progress.after_execution(rounds);
     }
 
     fn found(&self, gap: &NamedGap, number: u32, execution: Option<&ExecutionFile>) {
@@ -101,7 +88,7 @@ impl<P: FenceObserver + ProgressLine, M: Messages, F: Files + Copy> FenceObserve
             self.progress.end();
             let (earlier, later) = (gap.earlier.pc, gap.later.pc);
             let said = format_args!("found between {earlier:016x} and {later:016x}");
-            repeating.tell(self.messages, said, number, false);
+            repeating.tell(self.world, said, number, false);
         }
     }
 }

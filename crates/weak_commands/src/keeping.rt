@@ -6,7 +6,7 @@ ghost use Rattle.weak_commands.specs.Saved.{AreGiven, AreSaved, IsUnsaved, IsUns
 
 use execution_scripts::{ExecutionFile, write_execution};
 use host_io::{RunError, Sink};
-use program_files::{CommandFailure, FileText, Files};
+use program_files::{CommandFailure, FileText, World};
 use std::alloc::{AllocError, Global};
 
 /// An execution, as the text of a file.
@@ -29,20 +29,20 @@ impl FileText for ExecutionText<'_> {
 /// # Errors
 ///
 /// `Unwritten` with the path of the first file that can't be made or written, and the refusal of memory.
-pub fn keep<F: Files>(
-    files: &mut F,
+pub fn keep<W: World>(
+    world: &mut W,
     alloc: Global,
     folder: Option<&str>,
     executions: &[ExecutionFile],
 ) -> Result<(), CommandFailure>
-    ensures saved { OnOk result (AreSaved F.was_given (option_map (λ s. s.now) folder.entry)
-        (map as_recorded executions.now) files.old files.new) }
-    ensures unasked { folder.entry ≡ None → files.new ≡ files.old }
-    ensures errors { IfErr result (IsUnsavedIn (F.wasnt_given files.new)
+    ensures saved { OnOk result (AreSaved W.was_given (option_map (λ s. s.now) folder.entry)
+        (map as_recorded executions.now) world.old world.new) }
+    ensures unasked { folder.entry ≡ None → world.new ≡ world.old }
+    ensures errors { IfErr result (IsUnsavedIn (W.wasnt_given world.new)
         (option_map (λ s. s.now) folder.entry)) }
 {
     match folder {
-        Some(folder) => keep_in(files, alloc, folder, executions),
+        Some(folder) => keep_in(world, alloc, folder, executions),
         None => Ok(()),
     }
 }
@@ -52,8 +52,8 @@ pub fn keep<F: Files>(
 /// # Errors
 ///
 /// `SinkFailed` where the file can't be made or written, and `OutOfMemory`.
-pub(crate) fn keep_found<F: Files>(
-    files: &mut F,
+pub(crate) fn keep_found<W: World>(
+    world: &mut W,
     alloc: Global,
     folder: &str,
     number: usize,
@@ -62,63 +62,63 @@ pub(crate) fn keep_found<F: Files>(
     let Ok(path) = format!(in alloc; "{folder}/found-{number}.execution") else {
         return Err(RunError::OutOfMemory);
     };
-    files.make_folder(folder);
-    files.overwrite(&path, &ExecutionText { file })
+    world.make_folder(folder);
+    world.overwrite(&path, &ExecutionText { file })
 }
 
 /// The same in a folder.
-fn keep_in<F: Files>(
-    files: &mut F,
+fn keep_in<W: World>(
+    world: &mut W,
     alloc: Global,
     folder: &str,
     executions: &[ExecutionFile],
 ) -> Result<(), CommandFailure>
-    ensures saved { OnOk result (AreSaved F.was_given (Some folder.now)
-        (map as_recorded executions.now) files.old files.new) }
-    ensures errors { IfErr result (IsUnsaved (F.wasnt_given files.new) folder.now) }
+    ensures saved { OnOk result (AreSaved W.was_given (Some folder.now)
+        (map as_recorded executions.now) world.old world.new) }
+    ensures errors { IfErr result (IsUnsaved (W.wasnt_given world.new) folder.now) }
 {
     if executions.is_empty() {
         return Ok(());
     }
-    files.make_folder(folder);
-    put_each(files, alloc, folder, executions)
+    world.make_folder(folder);
+    put_each(world, alloc, folder, executions)
 }
 
 /// Writes executions to files of a folder.
-fn put_each<F: Files>(
-    files: &mut F,
+fn put_each<W: World>(
+    world: &mut W,
     alloc: Global,
     folder: &str,
     executions: &[ExecutionFile],
 ) -> Result<(), CommandFailure>
-    ensures given { OnOk result (AreGiven F.was_given folder.now 1 (map as_recorded executions.now)
-        files.old files.new) }
-    ensures errors { IfErr result (IsUnsaved (F.wasnt_given files.new) folder.now) }
+    ensures given { OnOk result (AreGiven W.was_given folder.now 1 (map as_recorded executions.now)
+        world.old world.new) }
+    ensures errors { IfErr result (IsUnsaved (W.wasnt_given world.new) folder.now) }
 {
     for index in 0..executions.len() {
-        put(files, alloc, folder, index + 1, &executions[index])?;
+        put(world, alloc, folder, index + 1, &executions[index])?;
     }
     Ok(())
 }
 
 /// Writes the execution of a number to its file.
-fn put<F: Files>(
-    files: &mut F,
+fn put<W: World>(
+    world: &mut W,
     alloc: Global,
     folder: &str,
     number: usize,
     file: &ExecutionFile,
 ) -> Result<(), CommandFailure>
-    ensures given { OnOk result (F.was_given files.old files.new (path_in folder.now number)
+    ensures given { OnOk result (W.was_given world.old world.new (path_in folder.now number)
         (execution.spelled (as_recorded file.now))) }
-    ensures errors { IfErr result (IsUnsaved (F.wasnt_given files.new) folder.now) }
+    ensures errors { IfErr result (IsUnsaved (W.wasnt_given world.new) folder.now) }
 {
     let path = path_of(alloc, folder, number)?;
     if folder.is_empty() {
         // The path is one in the root folder, which nobody asked for.
         return Err(CommandFailure::Unwritten(path));
     }
-    match files.overwrite(&path, &ExecutionText { file }) {
+    match world.overwrite(&path, &ExecutionText { file }) {
         Ok(()) => Ok(()),
         Err(RunError::OutOfMemory) => Err(CommandFailure::from(RunError::OutOfMemory)),
         Err(_) => Err(CommandFailure::Unwritten(path)),

@@ -1,12 +1,11 @@
-ghost use Rattle.std.specs.Prelude.{◌≡◌, ◌⊎◌, ⊤, ℕ, Err, IfErr, IfOk, List, None, Some};
-ghost use Rattle.execution_file.specs.Recorded.{Recorded};
+ghost use Rattle.std.specs.Prelude.{◌≡◌, ◌⊎◌, ⊤, Err, IfErr, IfOk, None, Some};
 ghost use Rattle.execution_file.specs.Views.{as_recorded};
 ghost use Rattle.host_io.specs.declared.load_error.LoadError.{LoadError as ImageCause};
 ghost use Rattle.host_io.specs.declared.error.RunError.TheVariants as refusals;
 ghost use Rattle.hunter.specs.Hunts.{IsImageCause, shrink_fault};
 ghost use Rattle.hunter.specs.declared.error.HuntError.{HuntError as Refusal};
 ghost use Rattle.hunter.specs.declared.error.HuntError.TheVariants as hunting;
-ghost use Rattle.hunter.specs.declared.settings.HuntSettings.{HuntSettings as AskedFor};
+ghost use Rattle.weak_commands.specs.Relations.{MakeRelation};
 ghost use Rattle.weak_hunter.specs.WeakExecutions.{IsAllowedExecution, IsUnmade};
 ghost use Rattle.weak_hunter.specs.declared.error.WeakHuntError.TheVariants.{Hunt};
 
@@ -19,7 +18,7 @@ use weak_hunter::{WeakHuntError, weak_execution};
 /// can only get by a call with this number, and with so many steps.
 pub trait WeakExecutions {
     /// The file says the execution of a number, of so many steps at most, that is made by these settings of an image and an input.
-    ghost makes: { AskedFor → List ℕ → List ℕ → ℕ → ℕ → Recorded → Type 0 };
+    ghost makes: { MakeRelation };
 
     /// Makes the execution of a number, of so many steps at most.
     ///

@@ -11,7 +11,7 @@ use host_io::RunError;
 use hunter::{HuntSettings, check_hunt};
 use machine::load;
 use pages::Range;
-use program_files::{CommandFailure, Messages, Misplaced};
+use program_files::{CommandFailure, Misplaced, World};
 use rv64_decode::FenceSet;
 use std::alloc::{AllocFailed, Global};
 use timed_machine::AssumedFence;
@@ -22,12 +22,12 @@ use timed_machine::AssumedFence;
 /// # Errors
 ///
 /// `NoPlace` for the first word that names none; the refusal of memory.
-pub(crate) fn fences_of<M: Messages>(
+pub(crate) fn fences_of<W: World>(
     alloc: Global,
     words: &[&str],
     settings: &HuntSettings,
     file: &[u8],
-    messages: &M,
+    world: &W,
 ) -> Result<Vec<AssumedFence>, CommandFailure>
     ensures assumed { IfOk result (λ fences.
         IsAssumed (map (λ s. s.now) words.now) settings.now file.now fences.items) }
@@ -40,19 +40,19 @@ pub(crate) fn fences_of<M: Messages>(
         return Ok(Vec::new(alloc));
     };
     match load(alloc, settings.format, file, settings.pages) {
-        Ok(image) => fences_in(alloc, words, file, image.code(), messages),
+        Ok(image) => fences_in(alloc, words, file, image.code(), world),
         Err(RunError::OutOfMemory) => Err(CommandFailure::from(RunError::OutOfMemory)),
         Err(_) => Ok(Vec::new(alloc)),
     }
 }
 
 /// The same in the code of an image.
-fn fences_in<M: Messages>(
+fn fences_in<W: World>(
     alloc: Global,
     words: &[&str],
     file: &[u8],
     code: &[Range],
-    messages: &M,
+    world: &W,
 ) -> Result<Vec<AssumedFence>, CommandFailure>
     ensures named { IfOk result (λ fences.
         AreFences file.now code.now (map (λ s. s.now) words.now) [] fences.items) }
@@ -61,7 +61,7 @@ fn fences_in<M: Messages>(
     let mut fences = Vec::new(alloc);
     for word in words {
         match fence_of(file, code, word) {
-            Ok(fence) => add(&mut fences, fence, word, messages)?,
+            Ok(fence) => add(&mut fences, fence, word, world)?,
             Err(why) => return Err(no_place(alloc, word, why)),
         }
     }
@@ -69,16 +69,16 @@ fn fences_in<M: Messages>(
 }
 
 /// Adds a fence. It is told where one stands before the same instruction.
-fn add<M: Messages>(
+fn add<W: World>(
     fences: &mut Vec<AssumedFence>,
     fence: AssumedFence,
     word: &str,
-    messages: &M,
+    world: &W,
 ) -> Result<(), AllocFailed<AssumedFence>>
     ensures { OnOk result (fences.new.items ≡ fences.old.items ++ fence ∷ []) }
 {
     if has_fence_at(fences, fence.pc) {
-        messages.tell(format_args!(
+        world.tell(format_args!(
             "--as-if-fence {word} names the same instruction as one before it"
         ));
     }

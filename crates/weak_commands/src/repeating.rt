@@ -2,7 +2,7 @@
 
 use command_line::Fences;
 use hunt_commands::{line_of, quoted, weak_line_of};
-use program_files::Messages;
+use program_files::World;
 use std::alloc::{AllocError, Global};
 use std::fmt::Display;
 
@@ -37,9 +37,9 @@ impl Repeating {
 
     /// Tells the line that makes the execution of a number again, behind what is said of it. Where it is one that isn't as it was drawn, that
     /// is a search which keeps it.
-    pub fn tell<M: Messages, D: Display + Drop>(
+    pub fn tell<W: World, D: Display + Drop>(
         &self,
-        messages: &M,
+        world: &W,
         said: D,
         number: u32,
         is_drawn: bool,
@@ -47,13 +47,11 @@ impl Repeating {
         let seed = self.seed;
         match &self.drawn {
             Some(line) if is_drawn => {
-                messages.tell(format_args!("{said}: {line} --plan-number {number} --seed {seed}"));
+                world.tell(format_args!("{said}: {line} --plan-number {number} --seed {seed}"));
             }
             _ => {
                 let line = &self.search;
-                messages.tell(format_args!(
-                    "{said}: {line} --first {number} --plans 1 --keep FOLDER"
-                ));
+                world.tell(format_args!("{said}: {line} --first {number} --plans 1 --keep FOLDER"));
             }
         }
     }

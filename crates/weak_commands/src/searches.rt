@@ -2,60 +2,57 @@ ghost use denote.Param.Send.{IsSync};
 ghost use Rattle.std.specs.Prelude.{◌≡◌, ◌⊎◌, ◌<◌, ◌++◌, ℕ, Err, IfErr, IfOk, List, None, OnErr, Some, false};
 ghost use Rattle.execution_file.specs.declared.file.ExecutionFile.{ExecutionFile as Saved};
 ghost use Rattle.fence_finder.specs.MissingFences.{IsSearched, IsSearchedBy};
-ghost use Rattle.fence_finder.specs.declared.settings.FenceSettings.{FenceSettings as AskedFor};
 ghost use Rattle.fence_table.specs.Text.{fences_text};
 ghost use Rattle.fence_table.specs.declared.fence_table.FenceTable.{FenceTable as Table};
-ghost use Rattle.fence_trials.specs.declared.departing.Departing.{Departing};
-ghost use Rattle.fence_trials.specs.declared.guest.FenceGuest.{FenceGuest};
 ghost use Rattle.host_io.specs.Taken.{BeganText};
 ghost use Rattle.host_io.specs.declared.load_error.LoadError.{LoadError as ImageCause};
 ghost use Rattle.host_io.specs.declared.error.RunError.TheVariants as refusals;
 ghost use Rattle.hunter.specs.Hunts.{IsImageCause, has_bad_range, hunt_fault};
 ghost use Rattle.hunter.specs.declared.error.HuntError.{HuntError as Refusal};
 ghost use Rattle.hunter.specs.declared.error.HuntError.TheVariants as hunting;
-ghost use Rattle.plan_hunt.specs.Endings.{Ended};
+ghost use Rattle.weak_commands.specs.Relations.{FenceRelations};
 ghost use Rattle.weak_hunter.specs.WeakHunts.{IsWeakReason};
 ghost use Rattle.weak_hunter.specs.declared.error.WeakHuntError.TheVariants.{Hunt};
 
+use crate::finds::FenceFinds;
 use fence_finder::{FenceSettings, FoundFences};
 use host_io::Sink;
+use hunt_commands::WeakHunts;
 use std::alloc::Global;
 use std::sync::Wait;
 use std::thread::Threads;
 use weak_hunter::WeakHuntError;
 
-/// Who searches for missing fences. No definition says which fences are found, nor which execution a number stands for: so these are
-/// relations, which a command can only get by a call.
-pub trait FenceSearches {
-    /// An execution of a guest that has this number and departs so comes to this.
-    ghost comes_to: { FenceGuest → Departing → ℕ → Ended → Type 0 };
+/// A world that also searches for missing fences. No definition says which fences are found, nor which execution a number stands for: so these
+/// are relations, which a command can only get by a call.
+pub trait FenceSearches: WeakHunts {
+    /// What these are.
+    ghost fences: { FenceRelations };
 
-    /// A search by these settings in an image and an input finds what the table has, with these executions.
-    ghost finds: { AskedFor → List ℕ → List ℕ → Table → List Saved → Type 0 };
-
-    /// Searches, and writes the table of what was found.
+    /// Searches, and writes the table of what was found. The finds are told how far that is, as those of a weak hunt are.
     ///
     /// # Errors
     ///
     /// As `find_fences` of fence_finder.
-    fn search<S: Sink, R: Threads + Wait + Sync>(
+    fn search_fences<S: Sink, R: Threads + Wait + Sync>(
         &self,
         rt: &R,
         alloc: Global,
         image: &[u8],
         input: &[u8],
         settings: FenceSettings,
+        finds: &FenceFinds<'_, Self::Progress, Self>,
         out: &mut S,
     ) -> Result<FoundFences, WeakHuntError>
         requires sync { IsSync R.row }
         ensures finds { IfOk result (λ f. IsSearched settings.hunt image.now input.now f.table ×
-            IsSearchedBy comes_to settings image.now input.now f.table ×
-            finds settings image.now input.now f.table f.executions.items ×
+            IsSearchedBy fences.comes_to settings image.now input.now f.table ×
+            fences.finds settings image.now input.now f.table f.executions.items ×
             (S.took out.new ≡ S.took out.old ++ fences_text f.table)) }
         ensures begun { OnErr result ((S.took out.new ≡ S.took out.old) ⊎
             ((t : Table) × (es : List Saved) × IsSearched settings.hunt image.now input.now t ×
-            IsSearchedBy comes_to settings image.now input.now t ×
-            finds settings image.now input.now t es ×
+            IsSearchedBy fences.comes_to settings image.now input.now t ×
+            fences.finds settings image.now input.now t es ×
             BeganText (S.took out.old) (S.took out.new) (fences_text t))) }
         ensures settings { (e : Refusal) → hunt_fault settings.hunt ≡ Some e →
             result ≡ Err (Hunt e) }

@@ -6,16 +6,16 @@ use command_line::Fences;
 use fence_finder::{Compared, FoundFences};
 use fence_table::FenceTable;
 use hunt_commands::tell_bounds;
-use program_files::Messages;
+use program_files::World;
 use std::alloc::{AllocError, Global};
 
 /// Says on standard error, for each missing fence, the line that repeats the execution that shows it, or the file in which that is kept. One
 /// that runs on past its own plan isn't that of its number as it is drawn.
-pub(crate) fn tell_missing<M: Messages>(
+pub(crate) fn tell_missing<W: World>(
     alloc: Global,
     asked: &Fences<'_>,
     found: &FoundFences,
-    messages: &M,
+    world: &W,
 ) -> Result<(), AllocError> {
     let repeating = Repeating::of(alloc, asked)?;
     for (index, missing) in found.table.missing.iter().enumerate() {
@@ -23,11 +23,11 @@ pub(crate) fn tell_missing<M: Messages>(
         let is_drawn = asked.as_if_fence.is_empty() && shown.steps <= found.compared.own_steps;
         match asked.keep {
             Some(folder) if !is_drawn => {
-                messages.tell(format_args!("missing {number}: {folder}/{number}.execution"));
+                world.tell(format_args!("missing {number}: {folder}/{number}.execution"));
             }
             _ => {
                 let said = format_args!("missing {number}");
-                repeating.tell(messages, said, shown.number, is_drawn);
+                repeating.tell(world, said, shown.number, is_drawn);
             }
         }
     }
@@ -35,24 +35,24 @@ pub(crate) fn tell_missing<M: Messages>(
 }
 
 /// Says on standard error how far executions were followed that still ran then, if there are some.
-pub(crate) fn tell_running<M: Messages>(asked: &Fences<'_>, table: &FenceTable, messages: &M) {
+pub(crate) fn tell_running<W: World>(asked: &Fences<'_>, table: &FenceTable, world: &W) {
     if table.running.plans != 0 {
-        tell_bounds(asked.steps, asked.search.program.rounds, messages);
+        tell_bounds(asked.steps, asked.search.program.rounds, world);
     }
 }
 
 /// Says on standard error what of the executions isn't compared with that of ordinary runs.
-pub(crate) fn tell_compared<M: Messages>(compared: Compared, messages: &M) {
+pub(crate) fn tell_compared<W: World>(compared: Compared, world: &W) {
     if !compared.ends_well {
-        messages.tell(format_args!(
+        world.tell(format_args!(
             "some ordinary runs don't end well, so neither output nor bytes are compared"
         ));
         return;
     }
     if !compared.output {
-        messages.tell(format_args!("the output of ordinary runs differs, so it isn't compared"));
+        world.tell(format_args!("the output of ordinary runs differs, so it isn't compared"));
     }
     if !compared.seen {
-        messages.tell(format_args!("the bytes of ordinary runs differ, so they aren't compared"));
+        world.tell(format_args!("the bytes of ordinary runs differ, so they aren't compared"));
     }
 }

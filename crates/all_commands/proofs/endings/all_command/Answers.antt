@@ -29,7 +29,7 @@ returns-in_err-keep-clause-begun g c =
 pub returns-in_err-keep-clause-unprinted : goal.returns-in_err-keep-clause-unprinted
 returns-in_err-keep-clause-unprinted g c =
     let p = err_from_is_err_and c.from_residual-in_err-keep.result c.from_residual-in_err-keep.ensures.1 in
-    rw (p.1, p.2) (inr (unsaved_number (g.F.Files.wasnt_given c.keep.new.files) _ _ c.in_err-keep.ensures.errors))
+    rw (p.1, p.2) (inr (unsaved_number (g.W.World.wasnt_given c.keep.new.world) _ _ c.in_err-keep.ensures.errors))
 
 pub returns-in_err-hand_on-clause-begun : goal.returns-in_err-hand_on-clause-begun
 returns-in_err-hand_on-clause-begun g c =
@@ -49,6 +49,6 @@ returns-clause-searches g c =
       c.in_ok-hand_on.ensures.took ∙ done.1,
       c.in_ok-hand_on.ensures.out,
       c.all_status.ensures ∙ ap all_status done.2,
-      subst (λ (es : List ExecutionFile). AreSaved g.F.Files.was_given (keep_of asked) (map as_recorded es) c.args.files.now c.keep.new.files) (c.deref.ensures.value ∙ done.3)
+      subst (λ (es : List ExecutionFile). AreSaved g.W.World.was_given (keep_of asked) (map as_recorded es) c.args.world.now c.keep.new.world) (c.deref.ensures.value ∙ done.3)
           c.in_ok-keep.ensures.saved,
     )

@@ -48,6 +48,6 @@ returns-in_err-status-clause-errors g c =
     let old = c.in_ok-old_file in
     let new = c.in_ok-new_file in
     let p = err_from_is_err_and c.from_residual-in_err-status.result c.from_residual-in_err-status.ensures.1 in
-    rw (p.1, p.2) (ends_given (g.F.Files.holds c.args.files.now) (g.F.Files.lacks c.args.files.now) c.args.asked.now _
+    rw (p.1, p.2) (ends_given (g.W.World.files c.args.world.now) c.args.asked.now _
     (record { old = old.old_file; new = new.new_file; of_old = old.ensures.path; of_new = new.ensures.path; old_held = old.ensures.held; new_held = new.ensures.held })
     _ c.in_err-status.ensures.errors)

@@ -10,6 +10,6 @@ returns-clause-records g c =
       record { image = f.program.image.items; input = f.program.input.items; text = f.plan.text.items; budget = f.plan.budget; given = c.in_ok-given.ensures.given; made = done.0 },
       done.1,
       done.2,
-      subst (λ (r : Recorded). g.F.Files.was_given c.args.files.now c.save.new.files c.args.asked.now.out.now (recording.spelled r)) done.3 c.in_ok-save.ensures.given,
+      subst (λ (r : Recorded). g.W.World.was_given c.args.world.now c.save.new.world c.args.asked.now.out.now (recording.spelled r)) done.3 c.in_ok-save.ensures.given,
       refl,
     )

@@ -7,6 +7,6 @@ pub returns-clause-migrates : goal.returns-clause-migrates
 returns-clause-migrates g c = (
   c.in_ok-recorded.recorded,
   c.in_ok-recorded.ensures.holds,
-  subst (λ (r : Recorded). g.F.Files.was_given c.args.files.now c.save.new.files c.args.asked.now.out.now (recording.spelled r)) c.migrate.ensures c.in_ok-save.ensures.given,
+  subst (λ (r : Recorded). g.W.World.was_given c.args.world.now c.save.new.world c.args.asked.now.out.now (recording.spelled r)) c.migrate.ensures c.in_ok-save.ensures.given,
   refl,
 )

@@ -46,6 +46,6 @@ returns-clause-searches g c =
       c.in_ok-hand_on.ensures.took ∙ done.1,
       c.in_ok-hand_on.ensures.out,
       c.fences_status.ensures ∙ ap (fences_status asked.fail_on) done.2,
-      subst (λ (es : List ExecutionFile). AreSaved g.F.Files.was_given (keep_of asked) (map as_recorded es) c.args.files.now c.keep.new.files) (c.deref-2.ensures.value ∙ done.3)
+      subst (λ (es : List ExecutionFile). AreSaved g.W.World.was_given (keep_of asked) (map as_recorded es) c.args.world.now c.keep.new.world) (c.deref-2.ensures.value ∙ done.3)
           c.in_ok-keep.ensures.saved,
     )

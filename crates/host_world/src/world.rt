@@ -1,23 +1,24 @@
 ghost use Rattle.std.specs.Prelude.{⊤};
 
+use crate::progress::HostProgress;
 use crate::saving::{save, write_to};
 use host_io::{ReadSource, RunError, read_all};
-use past_commands::PastFiles;
-use program_files::{FileFault, FileText, Files};
+use program_files::{FileFault, FileText, World};
+use std::fmt::Display;
 use std::fs::{self, File};
 use std::io::{self, Read};
 
 /// The most bytes of a file that are read, but of a recording.
 const MOST_BYTES: u64 = 1 << 30;
 
-/// The files of the host.
+/// The world of the host.
 #[derive(Clone, Copy, Drop)]
-pub struct HostFiles<'a> {
-    /// The runtime that reaches them.
+pub struct HostWorld<'a> {
+    /// The runtime that reaches it.
     pub rt: &'a HostRuntime,
 }
 
-impl HostFiles<'_> {
+impl HostWorld<'_> {
     /// Opens a file to read it.
     fn open(&self, path: &str) -> Result<File, FileFault> {
         match fs::open(self.rt, path) {
@@ -84,18 +85,20 @@ impl HostFiles<'_> {
     }
 }
 
-impl Files for HostFiles<'_> {
-    ghost holds = { λ _ _ _. ⊤ };
-
-    ghost begins = { λ _ _ _ _. ⊤ };
-
-    ghost marked = { λ _ _ _ _. ⊤ };
-
-    ghost lacks = { λ _ _ _. ⊤ };
+impl<'a> World for HostWorld<'a> {
+    ghost files = { λ _. record {
+      holds = λ _ _. ⊤;
+      begins = λ _ _ _. ⊤;
+      marked = λ _ _ _. ⊤;
+      either = λ _ _ _ _. ⊤;
+      lacks = λ _ _. ⊤;
+    } };
 
     ghost was_given = { λ _ _ _ _. ⊤ };
 
     ghost wasnt_given = { λ _ _. ⊤ };
+
+    type Progress = HostProgress<'a>;
 
     fn read_whole(&self, path: &str) -> Result<Vec<u8>, FileFault> {
         let file = self.open(path)?;
@@ -118,25 +121,6 @@ impl Files for HostFiles<'_> {
         Ok(bytes)
     }
 
-    fn replace<T: FileText>(&mut self, path: &str, text: &T) -> Result<(), RunError> {
-        save(self.rt, text, path)?;
-        Ok(())
-    }
-
-    fn overwrite<T: FileText>(&mut self, path: &str, text: &T) -> Result<(), RunError> {
-        write_to(self.rt, text, path)?;
-        Ok(())
-    }
-
-    fn make_folder(&mut self, path: &str) {
-        // Where that fails, a file in it can't be made either.
-        let _made = fs::create_dir_all(self.rt, path);
-    }
-}
-
-impl PastFiles for HostFiles<'_> {
-    ghost either = { λ _ _ _ _ _. ⊤ };
-
     fn read_either(&self, path: &str, first: &[u8], second: &[u8]) -> Result<Vec<u8>, FileFault> {
         let file = self.open(path)?;
         let beginning = self.read_up(path, (&file).take(first.len() as u64))?;
@@ -151,5 +135,34 @@ impl PastFiles for HostFiles<'_> {
         };
         let bytes = read?;
         Ok(bytes)
+    }
+
+    fn replace<T: FileText>(&mut self, path: &str, text: &T) -> Result<(), RunError> {
+        save(self.rt, text, path)?;
+        Ok(())
+    }
+
+    fn overwrite<T: FileText>(&mut self, path: &str, text: &T) -> Result<(), RunError> {
+        write_to(self.rt, text, path)?;
+        Ok(())
+    }
+
+    fn make_folder(&mut self, path: &str) {
+        // Where that fails, a file in it can't be made either.
+        let _made = fs::create_dir_all(self.rt, path);
+    }
+
+    fn tell<D: Display + Drop>(&self, text: D) {
+        let _untold = self.rt.eprintln(text);
+    }
+
+    fn progress(
+        &self,
+        asked: bool,
+        all: u32,
+        workers: u32,
+        seconds: Option<u32>,
+    ) -> HostProgress<'a> {
+        HostProgress::new(self.rt, asked, all, workers, seconds)
     }
 }

@@ -7,7 +7,7 @@ use Rattle.program_files.proofs.Unprinted.{unprinted}
 use Rattle.weak_hunter.specs.Refusals.{weak_hunt_number}
 use Rattle.weak_hunter.specs.WeakHunts.{IsWeakReason}
 use Rattle.weak_hunter.specs.declared.error.WeakHuntError.TheVariants.{Hunt}
-use Rattle.host_world.proofs.weak_hunts.WeakHunterWeakHunts.hunt_weakly.Goals as goal
+use Rattle.host_world.proofs.searches.HostWorldWeakHunts.hunt_weakly.Goals as goal
 
 pub returns-clause-unprinted : goal.returns-clause-unprinted
 returns-clause-unprinted g c =

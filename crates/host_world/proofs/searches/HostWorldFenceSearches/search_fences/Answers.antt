@@ -6,7 +6,7 @@ use Rattle.program_files.proofs.Told.{where_refused}
 use Rattle.host_io.proofs.Answered.{begun}
 use Rattle.weak_hunter.specs.WeakHunts.{IsWeakReason}
 use Rattle.weak_hunter.specs.declared.error.WeakHuntError.TheVariants.{Hunt}
-use Rattle.host_world.proofs.fence_searches.FenceSearcherFenceSearches.search.Goals as goal
+use Rattle.host_world.proofs.searches.HostWorldFenceSearches.search_fences.Goals as goal
 
 pub returns-clause-begun : goal.returns-clause-begun
 returns-clause-begun g c =
