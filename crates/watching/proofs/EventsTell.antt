@@ -430,3 +430,14 @@ hits_added way saves ws earlier later e old one two others rival told eo er et e
     ∙ append_assoc old (hit_at e.phase e.hart e.access true rival) (hit_at e.phase e.hart e.access false told)
     ∙ ap (λ (p : Option ℕ). old ++ (hit_at e.phase e.hart e.access true p ++ hit_at e.phase e.hart e.access false told)) (er ∙ ap (λ (fs : List Event). position (found.is_rival fs e) ws) eo)
     ∙ ap (λ (p : Option ℕ). old ++ (hit_at e.phase e.hart e.access true (position (found.is_rival (beside way earlier later) e) ws) ++ hit_at e.phase e.hart e.access false p)) et
+
+-- ---- one event by itself
+
+tells_none : (w : Watchpoint) (kind : WatchKind) (saves : List SavedBytes) (earlier : List Event) (e : Event) → speaks_of w.range e.access ≡ false → tells_by kind w.range saves earlier e ≡ false
+tells_none w Changes saves earlier e s = any_fewer (in_range w.range.start w.range.len) (found.changes saves earlier e) (address_of e.access) (bytes_of e.access) s
+tells_none w Reads saves earlier e s = and_last (loads e.access) (speaks_of w.range e.access) s
+tells_none w Accesses saves earlier e s = and_last (loads e.access || stores e.access) (speaks_of w.range e.access) s
+
+-- none tells of one that touches no watched byte
+pub untouched_none : (ws : List Watchpoint) (saves : List SavedBytes) (earlier : List Event) (e : Event) → touches_some ws e ≡ false → position (tells saves earlier e) ws ≡ None
+untouched_none ws saves earlier e s = position_none (tells saves earlier e) ws (λ w i. tells_none w w.kind saves earlier e (any_none (λ (v : Watchpoint). speaks_of v.range e.access) w ws i s))

@@ -47,6 +47,13 @@ tells_by Accesses r saved earlier e = (loads e.access || stores e.access) && spe
 abbrev pub tells : List SavedBytes → List Event → Event → Watchpoint → Bool
 tells saved earlier e w = tells_by w.kind w.range saved earlier e
 
+-- the first watchpoint that tells of an event by itself, where its hart sees these bytes before it at the event's addresses
+abbrev pub bytes_there : Event → List ℕ → List SavedBytes
+bytes_there e bs = record { range = record { start = address_of e.access; len = bytes_of e.access }; bytes = bs } ∷ []
+
+abbrev pub told_alone : List Watchpoint → Event → List ℕ → Option ℕ
+told_alone ws e bs = position (tells (bytes_there e bs) [] e) ws
+
 abbrev pub writes_in_part : Watchpoint → Event → Bool
 writes_in_part w e = tells_changes w.kind && (not (is_serial e.phase) && (stores e.access && speaks_of w.range e.access))
 

@@ -1,4 +1,4 @@
-ghost use Rattle.std.specs.Prelude.{◌≡◌, ℕ, List, [], ◌++◌, ◌+◌, filter, IfOk, OnOk};
+ghost use Rattle.std.specs.Prelude.{◌≡◌, ℕ, List, [], ◌++◌, ◌+◌, filter, IfOk, OnOk, None, false};
 ghost use Rattle.std.specs.List.{position};
 ghost use Rattle.pages.specs.Memory.{IsBytes};
 ghost use Rattle.pages.specs.declared.access.Range.{Range};
@@ -9,10 +9,10 @@ ghost use Rattle.hart_step.specs.Words.{words_of};
 ghost use Rattle.moments.specs.Moves.{events_left, moves_of};
 ghost use Rattle.watching.specs.Watches.{beside, hit_at, hits_of};
 ghost use Rattle.watching.specs.Saved.{saved_of};
-ghost use Rattle.watching.specs.Events.{event_hits, hits_from, touches_some, is_rival, tells};
+ghost use Rattle.watching.specs.Events.{event_hits, hits_from, touches_some, told_alone, is_rival, tells};
 
 use crate::rivals::is_rival;
-use crate::saved::Saved;
+use crate::saved::{Saved, saved_at};
 use crate::told::{speaks_of, tells};
 use crate::watchpoint::{Watchpoint, Way};
 use pages::OutOfMemory;
@@ -72,9 +72,11 @@ fn touching(alloc: Global, trace: &Trace, watches: &[Watchpoint]) -> Result<Vec<
     Ok(found)
 }
 
-/// Whether an event does.
-fn touches_some(watches: &[Watchpoint], event: &Event) -> bool
-    ensures { result ≡ touches_some watches.now event.now }
+/// Whether an event does. No watchpoint tells of one that doesn't.
+pub fn touches_some(watches: &[Watchpoint], event: &Event) -> bool
+    ensures touches { result ≡ touches_some watches.now event.now }
+    ensures none { touches_some watches.now event.now ≡ false → (bytes : List ℕ) →
+        told_alone watches.now event.now bytes ≡ None }
 {
     watches
         .iter()
@@ -161,6 +163,24 @@ fn first_telling(
     watches
         .iter()
         .position(|watch| tells(watch, saved, earlier, event))
+}
+
+/// The first watchpoint that tells of an event by itself, where its hart sees these bytes before it at the event's addresses.
+///
+/// # Errors
+///
+/// `OutOfMemory` alone.
+pub fn told_alone(
+    alloc: Global,
+    watches: &[Watchpoint],
+    event: &Event,
+    bytes: Vec<u8>,
+) -> Result<Option<usize>, OutOfMemory>
+    ensures { IfOk result (λ x. x ≡ told_alone watches.now event.now bytes.items) }
+{
+    let mut saved = Vec::new(alloc);
+    saved.push(saved_at(&event.access, bytes))?;
+    Ok(first_telling(watches, &saved, &[], event))
 }
 
 /// Adds a hit, where a watchpoint tells of it.

@@ -8,6 +8,6 @@ mod saved;
 mod told;
 mod watchpoint;
 
-pub use hits::{Hit, hits_in_round};
+pub use hits::{Hit, hits_in_round, told_alone, touches_some};
 pub use saved::{Saved, save};
 pub use watchpoint::{WatchKind, Watchpoint, Way};

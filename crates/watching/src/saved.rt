@@ -1,8 +1,10 @@
 ghost use Rattle.std.specs.Prelude.{◌≡◌, ◌++◌, slice_get, IfOk, OnOk};
+ghost use Rattle.round_schedule.specs.Accesses.{address_of, bytes_of};
 ghost use Rattle.watching.specs.Saved.{bytes_from, saved_byte, saved_of};
 
 use crate::watchpoint::{WatchKind, Watchpoint};
 use pages::{OutOfMemory, Pages, Range};
+use round_schedule::Access;
 use std::alloc::Global;
 use std::marker::Model;
 
@@ -73,6 +75,22 @@ fn bytes_of(alloc: Global, pages: &Pages, range: Range) -> Result<Vec<u8>, OutOf
         bytes.push(pages.byte(first + offset))?;
     }
     Ok(bytes)
+}
+
+/// These bytes at an access's addresses.
+pub(crate) fn saved_at(access: &Access, bytes: Vec<u8>) -> Saved
+    ensures { result ≡ record {
+      range = record { start = address_of access.now; len = bytes_of access.now };
+      bytes = bytes.items;
+    } }
+{
+    Saved {
+        range: Range {
+            start: access.address(),
+            len: access.byte_count(),
+        },
+        bytes,
+    }
 }
 
 /// The saved byte at an address, where there is one.
