@@ -1,5 +1,5 @@
 -- A debugger's session with a recorded run.
-use Rattle.std.specs.Prelude.{◌≡◌, ℕ, ◌+◌, ◌<◌, ◌≤◌, ◌^◌, Bool, true, false, if◌then◌else◌, List, ◌++◌, length, slice_get, Option, Some, None, option_map, IfSome}
+use Rattle.std.specs.Prelude.{◌≡◌, ℕ, ◌+◌, ◌<◌, ◌≤◌, ◌^◌, Bool, true, false, if◌then◌else◌, List, ◌++◌, length, Option, Some, None, option_map, IfSome}
 use Rattle.round_schedule.specs.declared.bounds.TheConstants.{MOST_HARTS}
 use Rattle.hart_step.specs.declared.hart.Hart.{Hart}
 use Rattle.machine.specs.Machine.{Running}
@@ -11,12 +11,7 @@ use Rattle.round_schedule.specs.declared.event.Phase.TheVariants.{Parallel}
 use Rattle.past_harts.specs.declared.point.Point.{Point}
 use Rattle.past_harts.specs.declared.point.Side.TheVariants.{Break}
 use Rattle.past_harts.specs.Moments.{moment_in, place_in}
-use Rattle.watching.specs.declared.watchpoint.WatchKind.{WatchKind}
-use Rattle.watching.specs.declared.watchpoint.WatchKind.TheVariants.{Changes, Reads, Accesses}
-use Rattle.watching.specs.declared.watchpoint.Watchpoint.{Watchpoint}
-use Rattle.gdb_replies.specs.declared.stop_reply.Reason.{Reason}
-use Rattle.gdb_replies.specs.declared.stop_reply.Reason.TheVariants.{AccessWatch, ReadWatch, Step, Watch}
-use Rattle.gdb_talk.specs.Told.{reason_of}
+use Rattle.gdb_talk.specs.Stops.{Stopping, stopping}
 use Rattle.timelines.specs.Shown.{seen}
 use Rattle.gdb_runs.specs.declared.debugged.Debugged.{Debugged}
 use Rattle.gdb_runs.specs.declared.session.Session.{Session}
@@ -48,18 +43,16 @@ recorded_of m d = record { run = m; rounds = d.timeline.rounds; harts = d.harts;
 abbrev pub OfRun : Debugged → (Recorded → Type 0) → Type 0
 OfRun d p = (m : Running) → IsUntraced m d.timeline.start → p (recorded_of m d)
 
--- where it stands, the addresses of the breakpoints, and the watchpoints
+-- where it stands, and its breakpoints and watchpoints
 pub record State : Type 0 where
   pub standing : Standing
-  pub software : List ℕ
-  pub hardware : List ℕ
-  pub watches : List Watchpoint
+  pub stops : Stopping
 
 abbrev pub state_of : Session → State
-state_of s = record { standing = s.standing; software = s.software.items; hardware = s.hardware.items; watches = s.watches.items }
+state_of s = record { standing = s.standing; stops = stopping s.stops }
 
 abbrev pub stops_of : State → List ℕ
-stops_of s = s.software ++ s.hardware
+stops_of s = s.stops.software ++ s.stops.hardware
 
 -- it stands within the run, and speaks of harts that there are
 pub record IsReady (d : Debugged) (t : Standing) : Type 0 where
@@ -88,26 +81,6 @@ hart_of s = s.hart
 
 abbrev pub hart_seen : Running → Point → ℕ → Option Hart
 hart_seen m at i = option_map hart_of (seen m at i)
-
--- why one stands at a hart, where software and hardware breakpoints are at these addresses
-abbrev pub why : List ℕ → List ℕ → Option Hart → Reason
-why software hardware None = Step
-why software hardware (Some h) = reason_of software hardware h
-
--- a watchpoint is named by its kind and its own address
-abbrev pub watch_reason : WatchKind → ℕ → Reason
-watch_reason Changes address = Watch address
-watch_reason Reads address = ReadWatch address
-watch_reason Accesses address = AccessWatch address
-
-abbrev pub named : Option Watchpoint → Reason
-named None = Step
-named (Some w) = watch_reason w.kind w.range.start
-
--- why one stands where this is told: by which watchpoint, or why at the hart
-abbrev pub why_told : State → Option ℕ → Option Hart → Reason
-why_told s None h = why s.software s.hardware h
-why_told s (Some i) h = named (slice_get s.watches i)
 
 -- ---- the first moment, and the one behind the last round
 

@@ -6,8 +6,9 @@ use Rattle.past_harts.specs.declared.point.Point.{Point}
 use Rattle.round_steps.specs.declared.told.Told.{Told}
 use Rattle.gdb_replies.specs.declared.stop_reply.Reason.{Reason}
 use Rattle.gdb_replies.specs.declared.stop_reply.Reason.TheVariants.{Begin, End, Signal}
+use Rattle.gdb_talk.specs.Told.{why_told}
 use Rattle.gdb_runs.specs.declared.session.Standing.{Standing}
-use Rattle.gdb_runs.specs.Sessions.{Recorded, State, hart_seen, start_of, why_told}
+use Rattle.gdb_runs.specs.Sessions.{Recorded, State, hart_seen, start_of}
 
 abbrev pub moved : Standing → Point → Reason → ℕ → Standing
 moved t at reason hart = record t { point = at; reason = reason; told = hart; general = hart }
@@ -16,7 +17,7 @@ moved t at reason hart = record t { point = at; reason = reason; told = hart; ge
 abbrev pub told_at : Recorded → State → Told → Standing
 told_at r s x =
     let hart = x.point.moment.place.hart in
-    moved s.standing x.point (why_told s x.watch (hart_seen r.run x.point hart)) hart
+    moved s.standing x.point (why_told s.stops x.watch (hart_seen r.run x.point hart)) hart
 
 abbrev pub told_or : Recorded → State → Standing → Option Told → Standing
 told_or r s otherwise None = otherwise

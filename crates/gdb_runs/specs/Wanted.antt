@@ -35,11 +35,11 @@ pub record Finds (r : Recorded) (way : Way) (w : Wanted) (here : Point) (x : Opt
 
 -- all that a debugger is told, and each moment of a hart beside
 abbrev pub all_told : State → Option ℕ → Wanted
-all_told s each = record { each = each; faults = true; stops = stops_of s; watches = s.watches }
+all_told s each = record { each = each; faults = true; stops = stops_of s; watches = s.stops.watches }
 
 -- the moments of a hart, and what watchpoints tell of
 abbrev pub watched_of : State → ℕ → Wanted
-watched_of s hart = record { each = Some hart; faults = false; stops = []; watches = s.watches }
+watched_of s hart = record { each = Some hart; faults = false; stops = []; watches = s.stops.watches }
 
 -- the moments of a hart, and nothing else
 abbrev pub only_of : ℕ → Wanted

@@ -21,9 +21,8 @@ use watching::Way;
 pub fn all_told(alloc: Global, session: &Session, each: Option<u32>) -> Result<Telling, OutOfMemory>
     ensures { IfOk result (λ t. AsksFor (all_told (state_of session.now) each) t) }
 {
-    let mut stops = Vec::from_slice(alloc, session.software.as_slice())?;
-    stops.extend_from_slice(session.hardware.as_slice())?;
-    let watches = Vec::from_slice(alloc, session.watches.as_slice())?;
+    let stops = session.stops.addresses(alloc)?;
+    let watches = Vec::from_slice(alloc, session.stops.watches.as_slice())?;
     Ok(Telling {
         asked: Asked {
             each,
@@ -39,7 +38,7 @@ pub fn watched_of(alloc: Global, session: &Session, hart: u32) -> Result<Telling
     ensures { IfOk result (λ t. AsksFor (watched_of (state_of session.now) hart) t) }
 {
     let mut telling = only_of(alloc, hart);
-    telling.watches = Vec::from_slice(alloc, session.watches.as_slice())?;
+    telling.watches = Vec::from_slice(alloc, session.stops.watches.as_slice())?;
     Ok(telling)
 }
 

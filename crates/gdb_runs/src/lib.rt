@@ -10,5 +10,5 @@ mod session;
 pub use asking::{all_told, find, only_of, watched_of};
 pub use debugged::Debugged;
 pub use pace::{MOST_STEPS, steps_in_round, stretch_of};
-pub use resuming::{end_of, tell, why, why_told};
+pub use resuming::{end_of, tell};
 pub use session::{Session, Standing, start_of};

@@ -1,16 +1,14 @@
 //! Where a run stands at what is told next.
 
-ghost use Rattle.std.specs.Prelude.{◌≡◌, IfOk, slice_get};
+ghost use Rattle.std.specs.Prelude.{◌≡◌, IfOk};
 ghost use Rattle.gdb_runs.specs.Standings.{end_of, told_at};
-ghost use Rattle.gdb_runs.specs.Sessions.{IsReady, IsWithin, OfRun, named, state_of, watch_reason, why, why_told};
+ghost use Rattle.gdb_runs.specs.Sessions.{IsReady, IsWithin, OfRun, state_of};
 
 use crate::debugged::Debugged;
 use crate::session::{Session, Standing, start_of};
 use gdb_replies::Reason;
-use gdb_talk::reason_of;
-use hart_step::Hart;
 use pages::OutOfMemory;
-use round_steps::{Told, WatchKind, Watchpoint};
+use round_steps::Told;
 use std::sync::Wait;
 use std::thread::Threads;
 use watching::Way;
@@ -43,47 +41,6 @@ pub fn tell<R: Threads + Wait + Sync>(
 {
     let number = told.point.moment.place.hart;
     let there = run.hart_at(rt, &told.point, number)?;
-    let reason = why_told(session, told.watch, there);
+    let reason = session.stops.why(told.watch, there);
     Ok(session.standing.moved(told.point, reason, number))
-}
-
-/// Why one stands where this is told, by a watchpoint, by its index in the list, or at a hart.
-pub fn why_told(session: &Session, watch: Option<usize>, hart: Option<Hart>) -> Reason
-    ensures { result ≡ why_told (state_of session.now) watch hart }
-{
-    match watch {
-        Some(index) => named(&session.watches, index),
-        None => why(&session.software, &session.hardware, hart),
-    }
-}
-
-/// The word for a watchpoint in a list.
-fn named(watches: &[Watchpoint], index: usize) -> Reason
-    ensures { result ≡ named (slice_get watches.now index) }
-{
-    match watches.get(index) {
-        Some(watch) => watch_reason(watch.kind, watch.range.start),
-        None => Reason::Step,
-    }
-}
-
-/// The word for a watchpoint at an address.
-fn watch_reason(kind: WatchKind, address: u64) -> Reason
-    ensures { result ≡ watch_reason kind address }
-{
-    match kind {
-        WatchKind::Changes => Reason::Watch(address),
-        WatchKind::Reads => Reason::ReadWatch(address),
-        WatchKind::Accesses => Reason::AccessWatch(address),
-    }
-}
-
-/// Why one stands at a hart, with breakpoints at these addresses.
-pub fn why(software: &[u64], hardware: &[u64], hart: Option<Hart>) -> Reason
-    ensures { result ≡ why software.now hardware.now hart }
-{
-    match hart {
-        Some(hart) => reason_of(software, hardware, &hart),
-        None => Reason::Step,
-    }
 }

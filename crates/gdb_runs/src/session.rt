@@ -1,12 +1,13 @@
-ghost use Rattle.std.specs.Prelude.{◌≡◌, [], None, false};
+ghost use Rattle.std.specs.Prelude.{◌≡◌, None, false};
 ghost use Rattle.gdb_replies.specs.declared.stop_reply.Reason.TheVariants.{Step};
+ghost use Rattle.gdb_talk.specs.Stops.{no_stops, stopping};
 ghost use Rattle.gdb_runs.specs.Standings.{at_goal, moved, stays};
 ghost use Rattle.gdb_runs.specs.Sessions.{start_of};
 
 use gdb_replies::Reason;
+use gdb_talk::Stops;
 use past_harts::{Moment, Place, Point, Side};
 use round_schedule::Phase;
-use round_steps::Watchpoint;
 use std::alloc::Global;
 
 /// gdb's number of the signal that is none.
@@ -35,12 +36,8 @@ pub struct Standing {
 #[derive(Drop)]
 pub struct Session {
     pub standing: Standing,
-    /// The addresses of breakpoints that gdb calls software breakpoints.
-    pub software: Vec<u64>,
-    /// Those of its hardware breakpoints.
-    pub hardware: Vec<u64>,
-    /// Its watchpoints.
-    pub watches: Vec<Watchpoint>,
+    /// Its breakpoints and watchpoints.
+    pub stops: Stops,
 }
 
 impl Session {
@@ -55,9 +52,7 @@ impl Session {
           goal = None;
           hits = false;
         } }
-        ensures software { result.software.items ≡ [] }
-        ensures hardware { result.hardware.items ≡ [] }
-        ensures watches { result.watches.items ≡ [] }
+        ensures stops { stopping result.stops ≡ no_stops }
     {
         Session {
             standing: Standing {
@@ -69,9 +64,7 @@ impl Session {
                 goal: None,
                 hits: false,
             },
-            software: Vec::new(alloc),
-            hardware: Vec::new(alloc),
-            watches: Vec::new(alloc),
+            stops: Stops::new(alloc),
         }
     }
 }

@@ -1,5 +1,5 @@
 -- What a request is answered: facts by cases of it.
-use Rattle.std.proofs.Common.{◌≡◌, ℕ, List, codes, Option, Some, Result, inl, inr, refl, sym, subst}
+use Rattle.std.proofs.Common.{◌≡◌, ℕ, List, codes, Option, Some, None, Result, ap, inl, inr, refl, sym, subst}
 use Rattle.std.specs.Prelude.{◌⊎◌, ◌++◌, IfOk}
 use Rattle.std.proofs.lemmas.Result.{IfOk-weaker}
 use Rattle.std.specs.Global.{Vec}
@@ -10,6 +10,7 @@ use Rattle.gdb_packets.specs.declared.command.Command.TheVariants as commands
 use Rattle.gdb_packets.specs.declared.request.Request.{Request}
 use Rattle.gdb_packets.specs.declared.request.Request.TheVariants as requests
 use Rattle.gdb_talk.specs.declared.look.Look.{Look}
+use Rattle.gdb_talk.specs.Stops.{Stopping, changed_by}
 use Rattle.gdb_runs.specs.Sessions.{Recorded, State}
 use Rattle.gdb_runs.specs.declared.session.Standing.{Standing}
 use Rattle.gdb_session.specs.Answers.{Answers, AnswersBy, Replied, Resumes, command_text, reply_at}
@@ -53,6 +54,54 @@ no_command r t commands.GotoEnd a b c d e f g h = refl
 no_command r t commands.HitsOn a b c d e f g h = refl
 no_command r t commands.HitsOff a b c d e f g h = refl
 no_command r t commands.Unknown a b c d e f g h = refl
+
+-- one that changes breakpoints or watchpoints
+module _ (r : Recorded) (s : State) (stops : Stopping) (written : List ℕ) (wrote : written ≡ packet_text (codes "OK")) where
+  none : None ≡ Some stops → ⊥
+  none e = cc
+
+  stops_in : Option Stopping → Stopping
+  stops_in None = stops
+  stops_in (Some x) = x
+
+  pub changed : (request : Request) → changed_by s.stops request ≡ Some stops → Answers r s request written (record s { stops = stops })
+  unfolding stops_in
+  changed requests.Features e = absurd (none e)
+  changed (requests.Description o c) e = absurd (none e)
+  changed requests.WhyStopped e = absurd (none e)
+  changed (requests.ThreadList o c) e = absurd (none e)
+  changed requests.FirstThreads e = absurd (none e)
+  changed requests.MoreThreads e = absurd (none e)
+  changed requests.PresentThread e = absurd (none e)
+  changed (requests.Note n) e = absurd (none e)
+  changed requests.Attached e = absurd (none e)
+  changed (requests.SelectGeneral n) e = absurd (none e)
+  changed (requests.SelectMoving n) e = absurd (none e)
+  changed (requests.IsAlive n) e = absurd (none e)
+  changed requests.ReadRegisters e = absurd (none e)
+  changed (requests.ReadRegister n) e = absurd (none e)
+  changed (requests.ReadMemory a n) e = absurd (none e)
+  changed (requests.Checksum a n) e = absurd (none e)
+  changed (requests.ImageName o c) e = absurd (none e)
+  changed (requests.File f) e = absurd (none e)
+  changed (requests.Command k) e = absurd (none e)
+  changed requests.Change e = absurd (none e)
+  changed (requests.AddStop a) e = (wrote, ap (λ (o : Option Stopping). record s { stops = stops_in o }) (sym e))
+  changed (requests.RemoveStop a) e = (wrote, ap (λ (o : Option Stopping). record s { stops = stops_in o }) (sym e))
+  changed (requests.AddHardwareStop a) e = (wrote, ap (λ (o : Option Stopping). record s { stops = stops_in o }) (sym e))
+  changed (requests.RemoveHardwareStop a) e = (wrote, ap (λ (o : Option Stopping). record s { stops = stops_in o }) (sym e))
+  changed (requests.AddWatch k a n) e = (wrote, ap (λ (o : Option Stopping). record s { stops = stops_in o }) (sym e))
+  changed (requests.RemoveWatch k a n) e = (wrote, ap (λ (o : Option Stopping). record s { stops = stops_in o }) (sym e))
+  changed requests.Actions e = absurd (none e)
+  changed requests.Continue e = absurd (none e)
+  changed (requests.Step n) e = absurd (none e)
+  changed (requests.StepIn n a b) e = absurd (none e)
+  changed (requests.StepAlone n) e = absurd (none e)
+  changed requests.StepBack e = absurd (none e)
+  changed requests.ContinueBack e = absurd (none e)
+  changed requests.Detach e = absurd (none e)
+  changed requests.Kill e = absurd (none e)
+  changed requests.Unknown e = absurd (none e)
 
 -- ---- steps
 

@@ -1,9 +1,5 @@
 -- What a debugger is answered, and what its session is then.
 use Rattle.std.specs.Prelude.{◌≡◌, ℕ, ◌+◌, ◌-◌, ◌==◌, ◌&&◌, ◌||◌, not, nat_le, nat_lt, if◌then◌else◌, Bool, true, false, List, [], ◌∷◌, ◌++◌, filter, codes, is_some, Option, Some, None}
-use Rattle.std.specs.List.{list_any}
-use Rattle.watching.specs.declared.watchpoint.WatchKind.{WatchKind}
-use Rattle.watching.specs.declared.watchpoint.WatchKind.TheVariants as kinds
-use Rattle.watching.specs.declared.watchpoint.Watchpoint.{Watchpoint}
 use Rattle.watching.specs.declared.watchpoint.Way.TheVariants.{On, Back}
 use Rattle.gdb_packets.specs.Writing.{packet_text}
 use Rattle.hex.specs.Hex.{encode_lower}
@@ -13,9 +9,7 @@ use Rattle.gdb_packets.specs.declared.command.Command.{Command}
 use Rattle.gdb_packets.specs.declared.command.Command.TheVariants as commands
 use Rattle.gdb_packets.specs.declared.request.Request.{Request}
 use Rattle.gdb_packets.specs.declared.request.Request.TheVariants as requests
-use Rattle.gdb_packets.specs.declared.request.Watch.{Watch}
-use Rattle.gdb_packets.specs.declared.request.Watch.TheVariants as asked
-use Rattle.gdb_talk.specs.Stops.{with_one, without_one}
+use Rattle.gdb_talk.specs.Stops.{Stopping, changed_by}
 use Rattle.gdb_talk.specs.Told.{done_if, hart_of_thread}
 use Rattle.gdb_replies.specs.Description.{target_text}
 use Rattle.gdb_replies.specs.CommandTexts.{ahead_text, behind_text, elsewhere_text, harts_text, help_text, here_text, hits_text, rounds_text}
@@ -157,29 +151,6 @@ abbrev pub SelectsMovingBy : Recorded → State → Option ℕ → List ℕ → 
 SelectsMovingBy r s None written t = Says (codes "OK") (moves_alone s None) written t
 SelectsMovingBy r s (Some thread) written t = SelectsMoving s (hart_of_thread r.harts thread) written t
 
--- watchpoints come and go
-abbrev pub kind_of : Watch → WatchKind
-kind_of asked.Write = kinds.Changes
-kind_of asked.Read = kinds.Reads
-kind_of asked.Access = kinds.Accesses
-
-abbrev pub watch_of : Watch → ℕ → ℕ → Watchpoint
-watch_of kind address count = record { kind = kind_of kind; range = record { start = address; len = count } }
-
-abbrev pub kind_number : WatchKind → ℕ
-kind_number kinds.Changes = 0
-kind_number kinds.Reads = 1
-kind_number kinds.Accesses = 2
-
-abbrev pub same_watch : Watchpoint → Watchpoint → Bool
-same_watch w x = kind_number w.kind == kind_number x.kind && (w.range.start == x.range.start && w.range.len == x.range.len)
-
-abbrev pub with_watch : List Watchpoint → Watchpoint → List Watchpoint
-with_watch ws w = if list_any (same_watch w) ws then ws else ws ++ w ∷ []
-
-abbrev pub without_watch : List Watchpoint → Watchpoint → List Watchpoint
-without_watch ws w = filter (λ (x : Watchpoint). not (same_watch w x)) ws
-
 -- where the next run that goes on or back is to stop once; it can't where there is no such moment
 abbrev pub IsGoal : Recorded → Command → Goal → Type 0
 IsGoal r (commands.GotoRound round) goal = goal ≡ goal_at_round r.rounds round
@@ -262,17 +233,16 @@ pub record Resumes (r : Recorded) (s : State) (request : Request) (written : Lis
   pub moves : Moves r s request to
   pub stands : Stands r s to written t
 
+-- breakpoints or watchpoints are changed, or the run is resumed
+abbrev pub ChangesBy : Option Stopping → Recorded → State → Request → List ℕ → State → Type 0
+ChangesBy None r s request written t = Resumes r s request written t
+ChangesBy (Some stops) r s request written t = Says (codes "OK") (record s { stops = stops }) written t
+
 abbrev pub Changes : Recorded → State → Request → List ℕ → State → Type 0
 Changes r s (requests.SelectGeneral thread) written t = SelectsGeneral r s thread written t
 Changes r s (requests.SelectMoving thread) written t = SelectsMovingBy r s thread written t
-Changes r s (requests.AddStop address) written t = Says (codes "OK") (record s { software = with_one s.software address }) written t
-Changes r s (requests.RemoveStop address) written t = Says (codes "OK") (record s { software = without_one s.software address }) written t
-Changes r s (requests.AddHardwareStop address) written t = Says (codes "OK") (record s { hardware = with_one s.hardware address }) written t
-Changes r s (requests.RemoveHardwareStop address) written t = Says (codes "OK") (record s { hardware = without_one s.hardware address }) written t
-Changes r s (requests.AddWatch kind address count) written t = Says (codes "OK") (record s { watches = with_watch s.watches (watch_of kind address count) }) written t
-Changes r s (requests.RemoveWatch kind address count) written t = Says (codes "OK") (record s { watches = without_watch s.watches (watch_of kind address count) }) written t
 Changes r s (requests.Command command) written t = Sets r s command written t
-Changes r s request written t = Resumes r s request written t
+Changes r s request written t = ChangesBy (changed_by s.stops request) r s request written t
 
 abbrev pub AnswersBy : Option (List ℕ) → Recorded → State → Request → List ℕ → State → Type 0
 AnswersBy None r s request written t = Changes r s request written t

@@ -4,6 +4,7 @@ use Rattle.gdb_packets.specs.Stream.{Told, Accepted, Again, Interrupt, next_of}
 use Rattle.gdb_packets.specs.declared.request.Request.{Request}
 use Rattle.gdb_packets.specs.declared.request.Request.TheVariants as requests
 use Rattle.gdb_talk.specs.Asking.{UnlessKill, asked_by, ends}
+use Rattle.gdb_talk.specs.Stops.{no_stops}
 use Rattle.gdb_talk.specs.Saying.{asks_text, refused_text}
 use Rattle.gdb_talk.specs.Serving.{Answered, IsLost, Served as ServedBy}
 use Rattle.gdb_replies.specs.declared.stop_reply.Reason.TheVariants.{Step}
@@ -31,9 +32,7 @@ abbrev pub begun : Talking
 begun = record {
   state = record {
     standing = record { point = start_of 0; reason = Step; told = 0; general = 0; moving = None; goal = None; hits = false };
-    software = [];
-    hardware = [];
-    watches = [];
+    stops = no_stops;
   };
   last = None;
   searching = None;

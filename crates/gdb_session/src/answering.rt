@@ -3,17 +3,16 @@
 ghost use Rattle.std.specs.Prelude.{◌≡◌, IfOk, IfSome, OnErr};
 ghost use Rattle.gdb_packets.specs.declared.request.Request.TheVariants as requests;
 ghost use Rattle.gdb_session.specs.Answers.{Answers, Moves, Resumes};
-ghost use Rattle.gdb_runs.specs.Sessions.{IsReady, OfRun, Recorded, state_of};
+ghost use Rattle.gdb_runs.specs.Sessions.{IsReady, OfRun, state_of};
 
 use crate::goto::go_to;
 use crate::hits::set_hits;
 use crate::reading::{is_goto, reply_to, say_stop};
-use crate::watchpoints::{watch_of, with_watch, without_watch};
 use gdb_packets::{Command, Request};
 use gdb_replies::{Reply, reply_text};
 use gdb_runs::{Debugged, Session, Standing};
 use gdb_steps::{step, step_alone, step_back, step_in};
-use gdb_talk::{done_if, hart_of_thread, with_one, without_one};
+use gdb_talk::{done_if, hart_of_thread};
 use pages::OutOfMemory;
 use std::alloc::Global;
 use std::sync::Wait;
@@ -41,60 +40,31 @@ pub fn answer<R: Threads + Wait + Sync>(
     match request {
         Request::SelectGeneral(thread) => select_general(alloc, run, session, thread),
         Request::SelectMoving(thread) => select_moving(alloc, run, session, thread),
-        Request::AddStop(_)
-        | Request::RemoveStop(_)
-        | Request::AddHardwareStop(_)
-        | Request::RemoveHardwareStop(_)
-        | Request::AddWatch(..)
-        | Request::RemoveWatch(..) => change_stops(alloc, session, request),
         Request::Step(_) | Request::StepIn(..) | Request::StepAlone(_) | Request::StepBack =>
             resume(rt, alloc, run, session, request),
         Request::Command(command) => answer_command(rt, alloc, run, session, command),
-        _ => reply_to(rt, alloc, run, session.standing, request),
+        _ => change_or_reply(rt, alloc, run, session, request),
     }
 }
 
-/// Adds or removes a breakpoint or a watchpoint.
-fn change_stops(
+/// Changes breakpoints and watchpoints, or answers a request that changes nothing.
+fn change_or_reply<R: Threads + Wait + Sync>(
+    rt: &R,
     alloc: Global,
+    run: &mut Debugged,
     session: &mut Session,
     request: Request,
 ) -> Result<Vec<u8>, OutOfMemory>
-    ensures standing { session.new.standing ≡ session.old.standing }
-    ensures answers { (r : Recorded) → IfOk result (λ text.
-        Answers r (state_of session.old) request text.items (state_of session.new)) }
+    requires ready { IsReady run.old session.old.standing }
+    ensures stays { run.new ≡ run.old }
+    ensures ready { IsReady run.old session.new.standing }
+    ensures answers { OfRun run.old (λ r. IfOk result (λ text.
+        Answers r (state_of session.old) request text.items (state_of session.new))) }
     ensures refused { OnErr result (state_of session.new ≡ state_of session.old) }
 {
-    let done = reply_text(alloc, &Reply::Done)?;
-    match request {
-        Request::AddStop(address) => {
-            session.software = with_one(alloc, session.software.as_slice(), address)?;
-            Ok(done)
-        }
-        Request::RemoveStop(address) => {
-            session.software = without_one(alloc, session.software.as_slice(), address)?;
-            Ok(done)
-        }
-        Request::AddHardwareStop(address) => {
-            session.hardware = with_one(alloc, session.hardware.as_slice(), address)?;
-            Ok(done)
-        }
-        Request::RemoveHardwareStop(address) => {
-            session.hardware = without_one(alloc, session.hardware.as_slice(), address)?;
-            Ok(done)
-        }
-        Request::AddWatch(kind, address, count) => {
-            let watch = watch_of(kind, address, count);
-            session.watches = with_watch(alloc, session.watches.as_slice(), watch)?;
-            Ok(done)
-        }
-        Request::RemoveWatch(kind, address, count) => {
-            let watch = watch_of(kind, address, count);
-            session.watches = without_watch(alloc, session.watches.as_slice(), watch)?;
-            Ok(done)
-        }
-        // No other request changes them.
-        _ => Err(OutOfMemory),
+    match session.stops.change(alloc, request)? {
+        Some(done) => Ok(done),
+        None => reply_to(rt, alloc, run, session.standing, request),
     }
 }
 

@@ -8,7 +8,6 @@ mod opening;
 mod reading;
 mod serving;
 mod talk;
-mod watchpoints;
 
 pub use answering::answer;
 pub use opening::open;

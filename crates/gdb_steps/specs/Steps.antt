@@ -13,9 +13,9 @@ use Rattle.past_harts.specs.Moments.{is_before}
 use Rattle.past_harts.specs.Points.{point_before, same_moment, is_behind_move}
 use Rattle.gdb_replies.specs.declared.stop_reply.Reason.{Reason}
 use Rattle.gdb_replies.specs.declared.stop_reply.Reason.TheVariants.{Begin, End, Step, Watch}
-use Rattle.gdb_talk.specs.Told.{is_stopped}
+use Rattle.gdb_talk.specs.Told.{is_stopped, why, why_told}
 use Rattle.gdb_runs.specs.declared.session.Standing.{Standing}
-use Rattle.gdb_runs.specs.Sessions.{Recorded, State, hart_seen, why, why_told}
+use Rattle.gdb_runs.specs.Sessions.{Recorded, State, hart_seen}
 use Rattle.gdb_runs.specs.Standings.{end_of, moved, stays, told_at, told_or}
 use Rattle.gdb_runs.specs.Wanted.{Finds, all_told, only_of, watched_of}
 
@@ -50,7 +50,7 @@ abbrev pub begins_step : Recorded → State → ℕ → Told → Bool
 begins_step r s hart x =
     x.point.moment.place.hart == hart
     && (not (is_before s.standing.point.moment x.point.moment)
-    || (is_step (why_told s x.watch (hart_seen r.run x.point hart)) && not (is_stopped (hart_seen r.run x.point hart))))
+    || (is_step (why_told s.stops x.watch (hart_seen r.run x.point hart)) && not (is_stopped (hart_seen r.run x.point hart))))
 
 pub record StepsFrom (r : Recorded) (s : State) (hart : ℕ) (at : Point) (t : Standing) : Type 0 where
   pub found : Option Told

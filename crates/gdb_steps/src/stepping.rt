@@ -6,7 +6,7 @@ ghost use Rattle.gdb_runs.specs.Sessions.{IsReady, IsWithin, OfRun, state_of};
 
 use crate::finding::{find_told, tell_or};
 use gdb_replies::Reason;
-use gdb_runs::{Debugged, Session, Standing, end_of, tell, why_told};
+use gdb_runs::{Debugged, Session, Standing, end_of, tell};
 use gdb_talk::is_stopped;
 use pages::OutOfMemory;
 use past_harts::{Point, Side};
@@ -125,7 +125,7 @@ fn begins_step<R: Threads + Wait + Sync>(
         return Ok(true);
     }
     let there = run.hart_at(rt, &told.point, hart)?;
-    Ok(why_told(session, told.watch, there) == Reason::Step && !is_stopped(there))
+    Ok(session.stops.why(told.watch, there) == Reason::Step && !is_stopped(there))
 }
 
 /// A step of the hart that begins at a point.

@@ -9,8 +9,8 @@ ghost use Rattle.round_schedule.specs.Bounds.{AreWorkers};
 
 use crate::stepping::{at_side_if, later_of, no_step, sought_from, step_back_beside};
 use gdb_replies::Reason;
-use gdb_runs::{Debugged, Session, Standing, find, only_of, tell, watched_of, why};
-use gdb_talk::is_stopped;
+use gdb_runs::{Debugged, Session, Standing, find, only_of, tell, watched_of};
+use gdb_talk::{is_stopped, why};
 use hart_step::Hart;
 use pages::OutOfMemory;
 use past_harts::{Moment, Place, Point, Side};

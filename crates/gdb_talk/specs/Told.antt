@@ -1,5 +1,5 @@
 -- What a debugger is told of a hart at a moment.
-use Rattle.std.specs.Prelude.{ℕ, ◌+◌, ◌-◌, ◌==◌, ◌||◌, nat_lt, Bool, true, false, is_some, if◌then◌else◌, List, codes, slice_set, slice_index, Option, Some, None}
+use Rattle.std.specs.Prelude.{ℕ, ◌+◌, ◌-◌, ◌==◌, ◌||◌, nat_lt, Bool, true, false, is_some, if◌then◌else◌, List, codes, slice_get, slice_set, slice_index, Option, Some, None}
 use Rattle.hart_step.specs.declared.hart.Hart.{Hart}
 use Rattle.hart_step.specs.declared.hart.Stop.{Stop}
 use Rattle.moments.specs.Sights.{Sight}
@@ -9,8 +9,12 @@ use Rattle.past_harts.specs.Moments.{phase_number}
 use Rattle.gdb_replies.specs.declared.note.ThreadNote.{ThreadNote}
 use Rattle.gdb_replies.specs.declared.registers.Registers.{Registers}
 use Rattle.gdb_replies.specs.declared.stop_reply.Reason.{Reason}
-use Rattle.gdb_replies.specs.declared.stop_reply.Reason.TheVariants.{Breakpoint, HardwareBreakpoint, Signal, Step}
+use Rattle.gdb_replies.specs.declared.stop_reply.Reason.TheVariants.{AccessWatch, Breakpoint, HardwareBreakpoint, ReadWatch, Signal, Step, Watch}
 use Rattle.gdb_replies.specs.declared.stop_reply.StopReply.{StopReply}
+use Rattle.watching.specs.declared.watchpoint.WatchKind.{WatchKind}
+use Rattle.watching.specs.declared.watchpoint.WatchKind.TheVariants.{Changes, Reads, Accesses}
+use Rattle.watching.specs.declared.watchpoint.Watchpoint.{Watchpoint}
+use Rattle.gdb_talk.specs.Stops.{Stopping}
 
 -- the hart's own numbers, of which x0 reads 0, and where in the run it is
 abbrev pub registers_of : Hart → Moment → Registers
@@ -41,6 +45,26 @@ reason_by_stop (Some s) other = if s.code == 1 then other else Signal (signal_of
 abbrev pub reason_of : List ℕ → List ℕ → Hart → Reason
 reason_of software hardware h =
     reason_by_stop h.stop (if is_one_of software h.pc then Breakpoint else (if is_one_of hardware h.pc then HardwareBreakpoint else Step))
+
+-- why one stands where there is this hart, or none
+abbrev pub why : List ℕ → List ℕ → Option Hart → Reason
+why software hardware None = Step
+why software hardware (Some h) = reason_of software hardware h
+
+-- a watchpoint is named by its kind and its own address
+abbrev pub watch_reason : WatchKind → ℕ → Reason
+watch_reason Changes address = Watch address
+watch_reason Reads address = ReadWatch address
+watch_reason Accesses address = AccessWatch address
+
+abbrev pub named : Option Watchpoint → Reason
+named None = Step
+named (Some w) = watch_reason w.kind w.range.start
+
+-- why one stands where this is told: by which watchpoint, or why at the hart
+abbrev pub why_told : Stopping → Option ℕ → Option Hart → Reason
+why_told s None h = why s.software s.hardware h
+why_told s (Some watch) h = named (slice_get s.watches watch)
 
 -- there is no step of a hart that has stopped, nor of one that isn't there
 abbrev pub is_stopped : Option Hart → Bool

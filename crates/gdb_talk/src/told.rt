@@ -1,11 +1,12 @@
 ghost use Rattle.std.specs.Prelude.{◌≡◌, ◌+◌, ◌<◌, ◌^◌, IfSome, slice_get};
 ghost use Rattle.gdb_replies.specs.Replies.{payload_of};
 ghost use Rattle.gdb_replies.specs.Words.{numbers_of};
-ghost use Rattle.gdb_talk.specs.Told.{done_if, hart_of_thread, is_stopped, note_of, reason_of, registers_of, signal_of, stop_reply_of, told_stop};
+ghost use Rattle.gdb_talk.specs.Told.{done_if, hart_of_thread, is_stopped, named, note_of, reason_of, registers_of, signal_of, stop_reply_of, told_stop, watch_reason, why};
 
 use gdb_replies::{Reason, Registers, Reply, StopReply, ThreadNote};
 use hart_step::{Hart, Stop};
 use past_harts::{Moment, phase_number};
+use watching::{WatchKind, Watchpoint};
 
 /// The numbers that a hart is shown with at a moment.
 pub fn registers_of(hart: &Hart, moment: Moment) -> Registers
@@ -95,7 +96,7 @@ pub fn is_stopped(hart: Option<Hart>) -> bool
 }
 
 /// Why one stands at a hart, where there are software and hardware breakpoints at these addresses.
-pub fn reason_of(software: &[u64], hardware: &[u64], hart: &Hart) -> Reason
+fn reason_of(software: &[u64], hardware: &[u64], hart: &Hart) -> Reason
     ensures { result ≡ reason_of software.now hardware.now hart.now }
 {
     if let Some(stop) = hart.stop
@@ -109,6 +110,37 @@ pub fn reason_of(software: &[u64], hardware: &[u64], hart: &Hart) -> Reason
         Reason::HardwareBreakpoint
     } else {
         Reason::Step
+    }
+}
+
+/// The word for a watchpoint in a list.
+pub(crate) fn named(watches: &[Watchpoint], index: usize) -> Reason
+    ensures { result ≡ named (slice_get watches.now index) }
+{
+    match watches.get(index) {
+        Some(watch) => watch_reason(watch.kind, watch.range.start),
+        None => Reason::Step,
+    }
+}
+
+/// The word for a watchpoint at an address.
+fn watch_reason(kind: WatchKind, address: u64) -> Reason
+    ensures { result ≡ watch_reason kind address }
+{
+    match kind {
+        WatchKind::Changes => Reason::Watch(address),
+        WatchKind::Reads => Reason::ReadWatch(address),
+        WatchKind::Accesses => Reason::AccessWatch(address),
+    }
+}
+
+/// Why one stands where there is this hart, or none, with breakpoints at these addresses.
+pub fn why(software: &[u64], hardware: &[u64], hart: Option<Hart>) -> Reason
+    ensures { result ≡ why software.now hardware.now hart }
+{
+    match hart {
+        Some(hart) => reason_of(software, hardware, &hart),
+        None => Reason::Step,
     }
 }
 

@@ -1,18 +1,11 @@
-use Rattle.std.proofs.Common.{rules, subst, sym}
+use Rattle.std.proofs.Common.{subst, sym}
 use Rattle.std.specs.Prelude.{IfOk}
 use Rattle.std.proofs.lemmas.Result.{IfOk-weaker}
 use Rattle.gdb_packets.specs.declared.request.Request.{Request}
-use Rattle.gdb_runs.specs.declared.session.Standing.{Standing}
-use Rattle.gdb_runs.specs.Sessions.{IsReady, recorded_of, state_of}
+use Rattle.gdb_runs.specs.Sessions.{recorded_of, state_of}
 use Rattle.gdb_session.specs.Answers.{Answers}
-use Rattle.gdb_session.proofs.Arriving.{replied, step_answered}
+use Rattle.gdb_session.proofs.Arriving.{step_answered}
 use Rattle.gdb_session.proofs.answering.answer.Goals as goal
-
-pub returns-in-AddStop-clause-ready : goal.returns-in-AddStop-clause-ready
-returns-in-AddStop-clause-ready g c = subst (λ (t : Standing). IsReady c.args.run.now t) (sym c.change_stops.ensures.standing) c.requires.ready
-
-pub returns-in-AddStop-clause-answers : goal.returns-in-AddStop-clause-answers
-returns-in-AddStop-clause-answers g c = λ m is. c.change_stops.ensures.answers (recorded_of m c.args.run.now)
 
 pub returns-in-Step-clause-answers : goal.returns-in-Step-clause-answers
 returns-in-Step-clause-answers g c = λ m is.
@@ -25,14 +18,3 @@ returns-in-Command-clause-answers g c = λ m is.
     let A : Request → Type 0 = λ q. IfOk c.answer_command.result
     (λ text. Answers (recorded_of m c.args.run.now) (state_of c.args.session.now) q text.items (state_of c.answer_command.new.session)) in
     subst A (sym c.in-Command.is) (c.answer_command.ensures.answers m is)
-
-pub returns-in_default : goal.returns-in_default
-returns-in_default g c = record {
-  stays = c.reply_to.ensures.stays;
-  ready = c.requires.ready;
-  answers = λ m is.
-      IfOk-weaker c.reply_to.result _ _
-      (λ text. replied (recorded_of m c.args.run.now) (state_of c.args.session.now) c.args.request text.items)
-      (c.reply_to.ensures.replies m is);
-  refused = search rules;
-}

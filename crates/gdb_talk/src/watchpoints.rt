@@ -2,12 +2,12 @@
 
 ghost use Rattle.std.specs.Prelude.{◌≡◌, IfOk};
 ghost use Rattle.std.specs.List.{list_any};
-ghost use Rattle.gdb_session.specs.Answers.{kind_number, kind_of, same_watch, watch_of, with_watch, without_watch};
+ghost use Rattle.gdb_talk.specs.Stops.{kind_number, kind_of, same_watch, watch_of, with_watch, without_watch};
 
 use gdb_packets::Watch;
 use pages::{OutOfMemory, Range};
-use round_steps::{WatchKind, Watchpoint};
 use std::alloc::Global;
+use watching::{WatchKind, Watchpoint};
 
 /// The watchpoint that is asked for.
 pub(crate) fn watch_of(kind: Watch, address: u64, count: u64) -> Watchpoint
