@@ -7,8 +7,8 @@ use Rattle.debug_commands.specs.declared.debuggee.Debuggee.TheVariants as debugg
 use Rattle.execution_commands.specs.Verdicts.{IsVerdictText}
 use Rattle.execution_scripts.specs.declared.checking.Checked.{Checked}
 use Rattle.execution_session.specs.Serving.{HasEnded as HasLeft, Served as ServedExecution, Talking as TalkingOf}
-use Rattle.execution_session.specs.Sessions.{looked_at}
-use Rattle.execution_session.specs.declared.past.Past.{Past}
+use Rattle.execution_moments.specs.Looked.{looked_at}
+use Rattle.execution_moments.specs.declared.past.Past.{Past}
 use Rattle.gdb_packets.specs.Stream.{next_of}
 use Rattle.gdb_runs.specs.Sessions.{OfRun}
 use Rattle.gdb_runs.specs.declared.debugged.Debugged.{Debugged}

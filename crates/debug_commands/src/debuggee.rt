@@ -19,7 +19,7 @@ pub(crate) enum Debuggee {
     /// The run of a recording, before its first round.
     Run(Debugged),
     /// An execution that RVWMO allows.
-    Execution(execution_session::Past),
+    Execution(execution_moments::Past),
     /// What was found against an execution.
     Refused(Checked),
 }

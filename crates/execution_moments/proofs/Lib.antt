@@ -4,3 +4,4 @@ pub mod Stopping
 pub mod Timing
 pub mod Rising
 pub mod Showing
+mod Finding

@@ -3,6 +3,7 @@ use Rattle.std.specs.Prelude.{ℕ, ◌-◌, ◌==◌, Bool, false, List, length,
 use Rattle.round_schedule.specs.declared.event.Event.{Event}
 use Rattle.hart_step.specs.declared.hart.Hart.{Hart}
 use Rattle.byte_sources.specs.Marks.{first_from}
+use Rattle.byte_sources.specs.Sources.{last_below}
 use Rattle.execution_views.specs.declared.moment.Moment.{Moment}
 use Rattle.execution_views.specs.Moments.{moment_of}
 use Rattle.execution_moments.specs.declared.course.Course.{Course}
@@ -27,6 +28,10 @@ is_of c h time = has_number h (moment_at c time)
 -- the time of the next moment of hart h from a time on
 abbrev pub next_of : Course → ℕ → ℕ → Option ℕ
 next_of c time h = first_from (is_of c h) time (length c.sequence.items - time)
+
+-- the time of its last moment before one
+abbrev pub previous_of : Course → ℕ → ℕ → Option ℕ
+previous_of c time h = last_below (is_of c h) time
 
 -- the hart there; where it has no further moment it is as it ends
 abbrev pub hart_in : Option HartMoment → Option Hart

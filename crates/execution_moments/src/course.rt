@@ -1,5 +1,5 @@
 ghost use Rattle.std.specs.Prelude.{◌≡◌, ◌<◌, IfSome, length};
-ghost use Rattle.execution_moments.specs.Shown.{hart_at, is_of, moment_at, next_of, index_at, view_at};
+ghost use Rattle.execution_moments.specs.Shown.{hart_at, is_of, moment_at, next_of, previous_of, index_at, view_at};
 
 use execution_views::{Moment, moment_of};
 use hart_step::Hart;
@@ -60,6 +60,21 @@ impl Course {
         for later in time..self.sequence.len() {
             if self.is_of(number, later) {
                 return Some(later);
+            }
+        }
+        None
+    }
+
+    /// The time of a hart's last moment before a time; none where it has no earlier one.
+    pub fn previous_of(&self, time: usize, number: u8) -> Option<usize>
+        ensures previous { result ≡ previous_of self.now time number }
+        ensures before { IfSome result (λ previous. previous < time) }
+    {
+        let mut earlier = time;
+        while earlier > 0 {
+            earlier -= 1;
+            if self.is_of(number, earlier) {
+                return Some(earlier);
             }
         }
         None

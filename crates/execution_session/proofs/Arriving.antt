@@ -2,49 +2,51 @@
 use Rattle.std.proofs.Common.{◌≡◌, ℕ, [], Option, None, refl}
 use Rattle.gdb_packets.specs.declared.request.Request.{Request}
 use Rattle.gdb_packets.specs.declared.request.Request.TheVariants as requests
+use Rattle.gdb_talk.specs.Stops.{changed_by}
 use Rattle.execution_session.specs.declared.session.Standing.{Standing}
-use Rattle.execution_session.specs.Answers.{answer_to, fixed_text, moment_text, reply_at, says}
-use Rattle.execution_session.specs.Sessions.{Looked, State}
+use Rattle.execution_session.specs.Answers.{answer_to, changes_by, fixed_text, moment_text}
+use Rattle.execution_moments.specs.Looked.{Looked}
+use Rattle.execution_session.specs.Sessions.{State}
 
--- a request that changes nothing
-pub nothing_changes : (r : Looked) (s : State) (request : Request) → ((n : Option ℕ) → request ≡ requests.SelectGeneral n → ⊥) → ((n : Option ℕ) → request ≡ requests.SelectMoving n → ⊥) → ((a : ℕ) → request ≡ requests.AddStop a → ⊥) → ((a : ℕ) → request ≡ requests.RemoveStop a → ⊥) → ((a : ℕ) → request ≡ requests.AddHardwareStop a → ⊥) → ((a : ℕ) → request ≡ requests.RemoveHardwareStop a → ⊥) → (request ≡ requests.Continue → ⊥) → ((n : ℕ) → request ≡ requests.Step n → ⊥) → ((n : ℕ) (a : ℕ) (b : ℕ) → request ≡ requests.StepIn n a b → ⊥) → ((n : ℕ) → request ≡ requests.StepAlone n → ⊥) → (request ≡ requests.StepBack → ⊥) → (request ≡ requests.ContinueBack → ⊥) →
-    answer_to r s request ≡ says s (reply_at r s.standing request)
-nothing_changes r s requests.Features _ _ _ _ _ _ _ _ _ _ _ _ = refl
-nothing_changes r s (requests.Description o c) _ _ _ _ _ _ _ _ _ _ _ _ = refl
-nothing_changes r s requests.WhyStopped _ _ _ _ _ _ _ _ _ _ _ _ = refl
-nothing_changes r s (requests.ThreadList o c) _ _ _ _ _ _ _ _ _ _ _ _ = refl
-nothing_changes r s requests.FirstThreads _ _ _ _ _ _ _ _ _ _ _ _ = refl
-nothing_changes r s requests.MoreThreads _ _ _ _ _ _ _ _ _ _ _ _ = refl
-nothing_changes r s requests.PresentThread _ _ _ _ _ _ _ _ _ _ _ _ = refl
-nothing_changes r s (requests.Note n) _ _ _ _ _ _ _ _ _ _ _ _ = refl
-nothing_changes r s requests.Attached _ _ _ _ _ _ _ _ _ _ _ _ = refl
-nothing_changes r s (requests.SelectGeneral n) x0 _ _ _ _ _ _ _ _ _ _ _ = absurd (x0 n refl)
-nothing_changes r s (requests.SelectMoving n) _ x1 _ _ _ _ _ _ _ _ _ _ = absurd (x1 n refl)
-nothing_changes r s (requests.IsAlive n) _ _ _ _ _ _ _ _ _ _ _ _ = refl
-nothing_changes r s requests.ReadRegisters _ _ _ _ _ _ _ _ _ _ _ _ = refl
-nothing_changes r s (requests.ReadRegister n) _ _ _ _ _ _ _ _ _ _ _ _ = refl
-nothing_changes r s (requests.ReadMemory a n) _ _ _ _ _ _ _ _ _ _ _ _ = refl
-nothing_changes r s (requests.Checksum a n) _ _ _ _ _ _ _ _ _ _ _ _ = refl
-nothing_changes r s (requests.ImageName o c) _ _ _ _ _ _ _ _ _ _ _ _ = refl
-nothing_changes r s (requests.File f) _ _ _ _ _ _ _ _ _ _ _ _ = refl
-nothing_changes r s (requests.Command k) _ _ _ _ _ _ _ _ _ _ _ _ = refl
-nothing_changes r s requests.Change _ _ _ _ _ _ _ _ _ _ _ _ = refl
-nothing_changes r s (requests.AddStop a) _ _ x2 _ _ _ _ _ _ _ _ _ = absurd (x2 a refl)
-nothing_changes r s (requests.RemoveStop a) _ _ _ x3 _ _ _ _ _ _ _ _ = absurd (x3 a refl)
-nothing_changes r s (requests.AddHardwareStop a) _ _ _ _ x4 _ _ _ _ _ _ _ = absurd (x4 a refl)
-nothing_changes r s (requests.RemoveHardwareStop a) _ _ _ _ _ x5 _ _ _ _ _ _ = absurd (x5 a refl)
-nothing_changes r s (requests.AddWatch k a n) _ _ _ _ _ _ _ _ _ _ _ _ = refl
-nothing_changes r s (requests.RemoveWatch k a n) _ _ _ _ _ _ _ _ _ _ _ _ = refl
-nothing_changes r s requests.Actions _ _ _ _ _ _ _ _ _ _ _ _ = refl
-nothing_changes r s requests.Continue _ _ _ _ _ _ x6 _ _ _ _ _ = absurd (x6 refl)
-nothing_changes r s (requests.Step n) _ _ _ _ _ _ _ x7 _ _ _ _ = absurd (x7 n refl)
-nothing_changes r s (requests.StepIn n a b) _ _ _ _ _ _ _ _ y _ _ _ = absurd (y n a b refl)
-nothing_changes r s (requests.StepAlone n) _ _ _ _ _ _ _ _ _ x8 _ _ = absurd (x8 n refl)
-nothing_changes r s requests.StepBack _ _ _ _ _ _ _ _ _ _ x9 _ = absurd (x9 refl)
-nothing_changes r s requests.ContinueBack _ _ _ _ _ _ _ _ _ _ _ x10 = absurd (x10 refl)
-nothing_changes r s requests.Detach _ _ _ _ _ _ _ _ _ _ _ _ = refl
-nothing_changes r s requests.Kill _ _ _ _ _ _ _ _ _ _ _ _ = refl
-nothing_changes r s requests.Unknown _ _ _ _ _ _ _ _ _ _ _ _ = refl
+-- a request that neither selects a thread nor resumes the execution
+pub only_changes : (r : Looked) (s : State) (request : Request) → ((n : Option ℕ) → request ≡ requests.SelectGeneral n → ⊥) → ((n : Option ℕ) → request ≡ requests.SelectMoving n → ⊥) → (request ≡ requests.Continue → ⊥) → ((n : ℕ) → request ≡ requests.Step n → ⊥) → ((n : ℕ) (a : ℕ) (b : ℕ) → request ≡ requests.StepIn n a b → ⊥) → ((n : ℕ) → request ≡ requests.StepAlone n → ⊥) → (request ≡ requests.StepBack → ⊥) → (request ≡ requests.ContinueBack → ⊥) →
+    answer_to r s request ≡ changes_by r s request (changed_by s.stops request)
+only_changes r s requests.Features _ _ _ _ _ _ _ _ = refl
+only_changes r s (requests.Description o c) _ _ _ _ _ _ _ _ = refl
+only_changes r s requests.WhyStopped _ _ _ _ _ _ _ _ = refl
+only_changes r s (requests.ThreadList o c) _ _ _ _ _ _ _ _ = refl
+only_changes r s requests.FirstThreads _ _ _ _ _ _ _ _ = refl
+only_changes r s requests.MoreThreads _ _ _ _ _ _ _ _ = refl
+only_changes r s requests.PresentThread _ _ _ _ _ _ _ _ = refl
+only_changes r s (requests.Note n) _ _ _ _ _ _ _ _ = refl
+only_changes r s requests.Attached _ _ _ _ _ _ _ _ = refl
+only_changes r s (requests.SelectGeneral n) x _ _ _ _ _ _ _ = absurd (x n refl)
+only_changes r s (requests.SelectMoving n) _ x _ _ _ _ _ _ = absurd (x n refl)
+only_changes r s (requests.IsAlive n) _ _ _ _ _ _ _ _ = refl
+only_changes r s requests.ReadRegisters _ _ _ _ _ _ _ _ = refl
+only_changes r s (requests.ReadRegister n) _ _ _ _ _ _ _ _ = refl
+only_changes r s (requests.ReadMemory a n) _ _ _ _ _ _ _ _ = refl
+only_changes r s (requests.Checksum a n) _ _ _ _ _ _ _ _ = refl
+only_changes r s (requests.ImageName o c) _ _ _ _ _ _ _ _ = refl
+only_changes r s (requests.File f) _ _ _ _ _ _ _ _ = refl
+only_changes r s (requests.Command k) _ _ _ _ _ _ _ _ = refl
+only_changes r s requests.Change _ _ _ _ _ _ _ _ = refl
+only_changes r s (requests.AddStop a) _ _ _ _ _ _ _ _ = refl
+only_changes r s (requests.RemoveStop a) _ _ _ _ _ _ _ _ = refl
+only_changes r s (requests.AddHardwareStop a) _ _ _ _ _ _ _ _ = refl
+only_changes r s (requests.RemoveHardwareStop a) _ _ _ _ _ _ _ _ = refl
+only_changes r s (requests.AddWatch k a n) _ _ _ _ _ _ _ _ = refl
+only_changes r s (requests.RemoveWatch k a n) _ _ _ _ _ _ _ _ = refl
+only_changes r s requests.Actions _ _ _ _ _ _ _ _ = refl
+only_changes r s requests.Continue _ _ x _ _ _ _ _ = absurd (x refl)
+only_changes r s (requests.Step n) _ _ _ x _ _ _ _ = absurd (x n refl)
+only_changes r s (requests.StepIn n a b) _ _ _ _ x _ _ _ = absurd (x n a b refl)
+only_changes r s (requests.StepAlone n) _ _ _ _ _ x _ _ = absurd (x n refl)
+only_changes r s requests.StepBack _ _ _ _ _ _ x _ = absurd (x refl)
+only_changes r s requests.ContinueBack _ _ _ _ _ _ _ x = absurd (x refl)
+only_changes r s requests.Detach _ _ _ _ _ _ _ _ = refl
+only_changes r s requests.Kill _ _ _ _ _ _ _ _ = refl
+only_changes r s requests.Unknown _ _ _ _ _ _ _ _ = refl
 
 -- one that is about the time
 pub not_fixed : (r : Looked) (t : Standing) (request : Request) → (request ≡ requests.Features → ⊥) → ((o : ℕ) (c : ℕ) → request ≡ requests.Description o c → ⊥) → (request ≡ requests.FirstThreads → ⊥) → (request ≡ requests.MoreThreads → ⊥) → (request ≡ requests.PresentThread → ⊥) → (request ≡ requests.Attached → ⊥) → (request ≡ requests.Change → ⊥) → (request ≡ requests.Actions → ⊥) → (request ≡ requests.Detach → ⊥) →

@@ -2,19 +2,19 @@
 use Rattle.std.specs.Prelude.{◌≡◌, ℕ, ◌+◌, ◌-◌, ◌==◌, Bool, not, min, nat_le, false, if◌then◌else◌, List, [], ◌∷◌, ◌++◌, codes, filter, slice_get, slice_set, is_some, Option, Some, None}
 use Rattle.hex.specs.Hex.{encode_lower}
 use Rattle.hart_step.specs.declared.hart.Hart.{Hart}
-use Rattle.execution_moments.specs.Shown.{hart_at, view_at}
-use Rattle.execution_views.specs.Moments.{bytes_at}
+use Rattle.execution_moments.specs.Looked.{Looked, bytes_shown}
+use Rattle.execution_moments.specs.Shown.{hart_at}
 use Rattle.gdb_packets.specs.Writing.{packet_text}
 use Rattle.gdb_packets.specs.declared.request.Request.{Request}
 use Rattle.gdb_packets.specs.declared.request.Request.TheVariants as requests
-use Rattle.gdb_talk.specs.Stops.{with_one, without_one}
+use Rattle.gdb_talk.specs.Stops.{Stopping, changed_by}
 use Rattle.gdb_replies.specs.Description.{target_text}
 use Rattle.gdb_replies.specs.Replies.{features_text, part_of, stop_text}
 use Rattle.gdb_replies.specs.Words.{numbers_of, register_text, registers_text, thread_text, threads_text}
 use Rattle.gdb_replies.specs.declared.registers.Registers.{Registers}
 use Rattle.gdb_talk.specs.Told.{done_if, hart_of_thread, stop_reply_of}
 use Rattle.execution_session.specs.declared.session.Standing.{Standing}
-use Rattle.execution_session.specs.Sessions.{Looked, State, position_at}
+use Rattle.execution_session.specs.Sessions.{State, position_at}
 use Rattle.execution_session.specs.Moving.{goes_back, goes_on, steps, steps_alone, steps_back}
 use Rattle.execution_session.specs.Threads.{thread_list}
 
@@ -32,7 +32,7 @@ stop_answer t None = missing
 stop_answer t (Some h) = stop_text (stop_reply_of t.reason t.told h)
 
 abbrev pub stands_text : Looked → Standing → List ℕ
-stands_text r t = stop_answer t (hart_at r.course t.time t.told)
+stands_text r t = stop_answer t (hart_at r.course t.point.time t.told)
 
 -- registers: those of the hart, of which x0 reads 0, and where its next operation stands in the order
 abbrev pub registers_of : Hart → ℕ → Registers
@@ -51,20 +51,15 @@ registers_answer number position None = missing
 registers_answer number position (Some h) = registers_said number (registers_of h position)
 
 abbrev pub registers_at : Looked → Standing → Option ℕ → List ℕ
-registers_at r t number = registers_answer number (position_at r t.time t.general) (hart_at r.course t.time t.general)
+registers_at r t number = registers_answer number (position_at r t.point.time t.general) (hart_at r.course t.point.time t.general)
 
 -- memory: as many bytes as there are, and 32,000 at most
-abbrev pub bytes_seen : Looked → ℕ → ℕ → ℕ → ℕ → List ℕ
-bytes_seen r time h address count =
-    if nat_le r.size address then [] else
-    bytes_at r.events r.opening r.order (view_at r.course r.events r.order time h) address (min (min count (r.size - address)) 32000)
-
 abbrev pub bytes_answer : List ℕ → List ℕ
 bytes_answer [] = missing
 bytes_answer (b ∷ bs) = encode_lower (b ∷ bs)
 
 abbrev pub memory_at : Looked → Standing → ℕ → ℕ → List ℕ
-memory_at r t address count = bytes_answer (bytes_seen r t.time t.general address count)
+memory_at r t address count = bytes_answer (bytes_shown r t.point.time t.general address (min count 32000))
 
 -- ---- requests that change nothing: those that aren't about the time, and those that are. Others are answered by nothing
 
@@ -82,7 +77,7 @@ fixed_text r t request = None
 
 abbrev pub moment_text : Looked → Standing → Request → List ℕ
 moment_text r t requests.WhyStopped = stands_text r t
-moment_text r t (requests.ThreadList offset count) = part_of (thread_list r t.time) offset count
+moment_text r t (requests.ThreadList offset count) = part_of (thread_list r t.point.time) offset count
 moment_text r t (requests.IsAlive thread) = done_if (is_some (hart_of_thread r.harts thread))
 moment_text r t requests.ReadRegisters = registers_at r t None
 moment_text r t (requests.ReadRegister number) = registers_at r t (Some number)
@@ -143,20 +138,21 @@ abbrev pub selects_moving : Looked → State → Option ℕ → Answer
 selects_moving r s None = record { text = done; state = record s { standing = record s.standing { moving = None } } }
 selects_moving r s (Some thread) = moving_by s (hart_of_thread r.harts thread)
 
+-- a request that changes breakpoints or watchpoints, or nothing
+abbrev pub changes_by : Looked → State → Request → Option Stopping → Answer
+changes_by r s request None = says s (reply_at r s.standing request)
+changes_by r s request (Some stops) = record { text = done; state = record s { stops = stops } }
+
 abbrev pub answer_to : Looked → State → Request → Answer
 answer_to r s (requests.SelectGeneral thread) = selects_general r s thread
 answer_to r s (requests.SelectMoving thread) = selects_moving r s thread
-answer_to r s (requests.AddStop address) = record { text = done; state = record s { software = with_one s.software address } }
-answer_to r s (requests.RemoveStop address) = record { text = done; state = record s { software = without_one s.software address } }
-answer_to r s (requests.AddHardwareStop address) = record { text = done; state = record s { hardware = with_one s.hardware address } }
-answer_to r s (requests.RemoveHardwareStop address) = record { text = done; state = record s { hardware = without_one s.hardware address } }
 answer_to r s requests.Continue = resumed r s requests.Continue
 answer_to r s (requests.Step thread) = resumed r s (requests.Step thread)
 answer_to r s (requests.StepIn thread low high) = resumed r s (requests.StepIn thread low high)
 answer_to r s (requests.StepAlone thread) = resumed r s (requests.StepAlone thread)
 answer_to r s requests.StepBack = resumed r s requests.StepBack
 answer_to r s requests.ContinueBack = resumed r s requests.ContinueBack
-answer_to r s request = says s (reply_at r s.standing request)
+answer_to r s request = changes_by r s request (changed_by s.stops request)
 
 -- it is one packet
 abbrev pub IsAnswer : Answer → List ℕ → State → Type 0

@@ -12,7 +12,7 @@ use Rattle.execution_scripts.specs.declared.checking.Finding.TheVariants.{Judged
 use Rattle.execution_moments.specs.Courses.{IsCourse}
 use Rattle.execution_session.specs.declared.opening.Opened.{Opened}
 use Rattle.execution_session.specs.declared.opening.Opened.TheVariants as opened
-use Rattle.execution_session.specs.declared.past.Past.{Past}
+use Rattle.execution_moments.specs.declared.past.Past.{Past}
 
 -- an execution of this guest that RVWMO allows, and its moments; the bytes are those that the guest's memory opens with
 pub record IsPast (g : Guest) (p : Past) : Type 0 where

@@ -5,8 +5,10 @@ use Rattle.gdb_packets.specs.declared.request.Request.{Request}
 use Rattle.gdb_talk.specs.Asking.{UnlessKill, asked_by, ends}
 use Rattle.gdb_talk.specs.Saying.{refused_text}
 use Rattle.gdb_talk.specs.Serving.{Answered, IsLost, Served as ServedBy}
+use Rattle.gdb_talk.specs.Stops.{no_stops}
+use Rattle.execution_moments.specs.Looked.{Looked}
 use Rattle.execution_session.specs.Answers.{Answers}
-use Rattle.execution_session.specs.Sessions.{Looked, State, opening_standing, state_of}
+use Rattle.execution_session.specs.Sessions.{State, opening_standing, state_of}
 use Rattle.execution_session.specs.declared.talk.Talk.{Talk}
 
 -- a debugger's session, and what it asked for last
@@ -17,9 +19,9 @@ pub record Talking : Type 0 where
 abbrev pub talking : Talk → Talking
 talking t = record { state = state_of t.session; last = t.last }
 
--- it stands at the first moment, and there are no breakpoints
+-- it stands at the first moment, and there are no breakpoints and watchpoints
 abbrev pub begun : Talking
-begun = record { state = record { standing = opening_standing; software = []; hardware = [] }; last = None }
+begun = record { state = record { standing = opening_standing; stops = no_stops }; last = None }
 
 -- ---- what is written for it
 

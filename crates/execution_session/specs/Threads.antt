@@ -5,7 +5,8 @@ use Rattle.hart_step.specs.declared.hart.Hart.{Hart}
 use Rattle.hart_step.specs.declared.hart.Stop.{Stop}
 use Rattle.execution_moments.specs.Shown.{hart_at}
 use Rattle.gdb_replies.specs.Replies.{thread_list_begin, thread_list_end}
-use Rattle.execution_session.specs.Sessions.{Looked, position_at}
+use Rattle.execution_moments.specs.Looked.{Looked}
+use Rattle.execution_session.specs.Sessions.{position_at}
 
 -- where a hart's next memory operation stands in the order, and how many instructions it has done; or how it ended
 abbrev pub state_text : Option Stop → ℕ → ℕ → List ℕ

@@ -3,20 +3,26 @@
 ghost use Rattle.std.specs.Prelude.{◌≡◌, IfOk, MatchOption, None, OnErr, Some};
 ghost use Rattle.gdb_packets.specs.Writing.{packet_text};
 ghost use Rattle.gdb_replies.specs.Replies.{part_of, payload_of};
-ghost use Rattle.execution_session.specs.Answers.{Answers, IsAnswer, fixed_text, memory_at, moment_text, registers_at, registers_of, reply_at, resumed, selects_general, selects_moving, stands_text, standing_after};
-ghost use Rattle.execution_session.specs.Sessions.{Looked, looked_at, state_of};
+ghost use Rattle.execution_session.specs.Answers.{Answers, IsAnswer, changes_by, fixed_text, memory_at, moment_text, registers_at, registers_of, reply_at, resumed, selects_general, selects_moving, stands_text, standing_after};
+ghost use Rattle.execution_moments.specs.Looked.{looked_at};
+ghost use Rattle.gdb_talk.specs.Stops.{changed_by};
+ghost use Rattle.execution_session.specs.Sessions.{state_of};
 ghost use Rattle.execution_session.specs.Threads.{thread_list};
 
+use crate::knowing::{hart_of_thread, position_at};
 use crate::moving::{go_back, go_on, step, step_alone, step_back};
-use crate::past::Past;
 use crate::session::{Session, Standing};
 use crate::threads::thread_list;
+use execution_moments::Past;
 use gdb_packets::Request;
 use gdb_replies::{Registers, Reply, Window, reply_text, target_description};
-use gdb_talk::{done_if, register_of, stop_reply_of, with_one, without_one};
+use gdb_talk::{done_if, register_of, stop_reply_of};
 use hart_step::Hart;
 use pages::OutOfMemory;
 use std::alloc::Global;
+
+/// The most bytes that are told at once, so that a reply of two digits each is no longer than a packet may be.
+const MOST_READ: u64 = 32_000;
 
 /// The answer to a request about an execution.
 ///
@@ -36,50 +42,31 @@ pub fn answer(
     match request {
         Request::SelectGeneral(thread) => select_general(alloc, past, session, thread),
         Request::SelectMoving(thread) => select_moving(alloc, past, session, thread),
-        Request::AddStop(_)
-        | Request::RemoveStop(_)
-        | Request::AddHardwareStop(_)
-        | Request::RemoveHardwareStop(_) => change_stops(alloc, session, request),
         Request::Continue
         | Request::Step(_)
         | Request::StepIn(_, _, _)
         | Request::StepAlone(_)
         | Request::StepBack
         | Request::ContinueBack => resume(alloc, past, session, request),
-        _ => reply_to(alloc, past, session.standing, request),
+        _ => change_or_reply(alloc, past, session, request),
     }
 }
 
-/// Adds or removes a breakpoint.
-fn change_stops(
+/// Changes breakpoints and watchpoints, or answers a request that changes nothing.
+fn change_or_reply(
     alloc: Global,
+    past: &Past,
     session: &mut Session,
     request: Request,
 ) -> Result<Vec<u8>, OutOfMemory>
-    ensures answers { (r : Looked) → IfOk result (λ text.
-        Answers r (state_of session.old) request text.items (state_of session.new)) }
+    ensures changes { IfOk result (λ text.
+        IsAnswer (changes_by (looked_at past.now) (state_of session.old) request
+        (changed_by (state_of session.old).stops request)) text.items (state_of session.new)) }
     ensures refused { OnErr result (state_of session.new ≡ state_of session.old) }
 {
-    let done = reply_text(alloc, &Reply::Done)?;
-    match request {
-        Request::AddStop(address) => {
-            session.software = with_one(alloc, session.software.as_slice(), address)?;
-            Ok(done)
-        }
-        Request::RemoveStop(address) => {
-            session.software = without_one(alloc, session.software.as_slice(), address)?;
-            Ok(done)
-        }
-        Request::AddHardwareStop(address) => {
-            session.hardware = with_one(alloc, session.hardware.as_slice(), address)?;
-            Ok(done)
-        }
-        Request::RemoveHardwareStop(address) => {
-            session.hardware = without_one(alloc, session.hardware.as_slice(), address)?;
-            Ok(done)
-        }
-        // No other request changes them.
-        _ => Err(OutOfMemory),
+    match session.stops.change(alloc, request)? {
+        Some(done) => Ok(done),
+        None => reply_to(alloc, past, session.standing, request),
     }
 }
 
@@ -118,13 +105,13 @@ fn standing_after(
     let standing = match request {
         // A step in a range ends behind its first step: gdb asks for the next one.
         Request::Step(thread) | Request::StepIn(thread, _, _) => {
-            match past.hart_of_thread(thread) {
+            match hart_of_thread(past, thread) {
                 Some(hart) => step(alloc, past, session, hart)?,
                 None => return Ok(None),
             }
         }
-        Request::StepAlone(thread) => match past.hart_of_thread(thread) {
-            Some(hart) => step_alone(past, session, hart),
+        Request::StepAlone(thread) => match hart_of_thread(past, thread) {
+            Some(hart) => step_alone(alloc, past, session, hart)?,
             None => return Ok(None),
         },
         Request::StepBack => step_back(alloc, past, session)?,
@@ -149,7 +136,7 @@ fn select_general(
     let Some(thread) = thread else {
         return reply_text(alloc, &Reply::Done);
     };
-    let hart = past.hart_of_thread(thread);
+    let hart = hart_of_thread(past, thread);
     let text = reply_text(alloc, &done_if(hart.is_some()))?;
     if let Some(hart) = hart {
         session.standing.general = hart;
@@ -174,7 +161,7 @@ fn select_moving(
         session.standing.moving = None;
         return Ok(text);
     };
-    let hart = past.hart_of_thread(thread);
+    let hart = hart_of_thread(past, thread);
     let text = reply_text(alloc, &done_if(hart.is_some()))?;
     if let Some(hart) = hart {
         session.standing.moving = Some(hart);
@@ -235,7 +222,7 @@ fn reply_at(
         Request::WhyStopped => say_where(alloc, past, standing),
         Request::ThreadList(offset, count) => { say_threads(alloc, past, standing, offset, count) }
         Request::IsAlive(thread) => {
-            reply_text(alloc, &done_if(past.hart_of_thread(thread).is_some()))
+            reply_text(alloc, &done_if(hart_of_thread(past, thread).is_some()))
         }
         Request::ReadRegisters => say_registers(alloc, past, standing, None),
         Request::ReadRegister(number) => say_registers(alloc, past, standing, Some(number)),
@@ -253,9 +240,10 @@ fn say_threads(
     count: u64,
 ) -> Result<Vec<u8>, OutOfMemory>
     ensures { IfOk result (λ text. text.items
-        ≡ packet_text (part_of (thread_list (looked_at past.now) standing.time) offset count)) }
+        ≡ packet_text (part_of (thread_list (looked_at past.now) standing.point.time) offset
+        count)) }
 {
-    let text = thread_list(alloc, past, standing.time)?;
+    let text = thread_list(alloc, past, standing.point.time)?;
     let part = Window {
         text: text.as_slice(),
         offset,
@@ -275,7 +263,8 @@ fn say_memory(
     ensures { IfOk result (λ text. text.items
         ≡ packet_text (memory_at (looked_at past.now) standing address count)) }
 {
-    let bytes = past.bytes_at(alloc, standing.time, standing.general, address, count)?;
+    let (time, count) = (standing.point.time, count.min(MOST_READ));
+    let bytes = past.bytes_at(alloc, time, standing.general, address, count)?;
     match bytes.as_slice() {
         [] => reply_text(alloc, &Reply::Missing),
         [_, ..] => reply_text(alloc, &Reply::Memory(bytes.as_slice())),
@@ -307,10 +296,11 @@ fn say_registers(
     ensures { IfOk result (λ text. text.items
         ≡ packet_text (registers_at (looked_at past.now) standing number)) }
 {
-    let Some(hart) = past.course.hart_at(standing.time, standing.general) else {
+    let Some(hart) = past.course.hart_at(standing.point.time, standing.general) else {
         return reply_text(alloc, &Reply::Missing);
     };
-    let registers = registers_of(&hart, past.position_at(standing.time, standing.general));
+    let position = position_at(past, standing.point.time, standing.general);
+    let registers = registers_of(&hart, position);
     let reply = match number {
         None => Reply::Registers(&registers),
         Some(number) => match register_of(&registers, number) {
@@ -326,7 +316,7 @@ fn say_where(alloc: Global, past: &Past, standing: Standing) -> Result<Vec<u8>, 
     ensures { IfOk result (λ text. text.items
         ≡ packet_text (stands_text (looked_at past.now) standing)) }
 {
-    match past.course.hart_at(standing.time, standing.told) {
+    match past.course.hart_at(standing.point.time, standing.told) {
         Some(hart) => {
             let stop = stop_reply_of(standing.reason, u32::from(standing.told), &hart);
             reply_text(alloc, &Reply::Stopped(stop))

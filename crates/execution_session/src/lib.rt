@@ -5,7 +5,6 @@ mod answering;
 mod knowing;
 mod moving;
 mod opening;
-mod past;
 mod serving;
 mod session;
 mod talk;
@@ -13,6 +12,5 @@ mod threads;
 
 pub use answering::answer;
 pub use opening::{Opened, open};
-pub use past::Past;
 pub use serving::serve;
 pub use session::{Session, Standing};

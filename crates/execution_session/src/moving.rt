@@ -1,28 +1,30 @@
 //! On and back, to what is told next or by a step.
 
-ghost use Rattle.std.specs.Prelude.{◌≡◌, ◌++◌, ◌+◌, [], IfOk, Some, None, true, false};
-ghost use Rattle.execution_session.specs.Moving.{ahead, at_end, back_alone_to, begins_step, goes_back, goes_on, next_in, previous_in, steps, steps_alone, steps_back, steps_by, told_at, told_or, is_step};
-ghost use Rattle.execution_session.specs.Sessions.{looked_at, state_of};
-ghost use Rattle.execution_moments.specs.Told.{previous_by};
+ghost use Rattle.std.specs.Prelude.{◌≡◌, ◌++◌, ◌<◌, IfOk, IfSome, Some, None, length, true};
+ghost use Rattle.execution_moments.specs.Looked.{looked_at};
+ghost use Rattle.execution_moments.specs.Points.{at};
+ghost use Rattle.execution_moments.specs.Shown.{previous_of};
+ghost use Rattle.execution_moments.specs.declared.point.TimeSide.TheVariants.{Break};
+ghost use Rattle.execution_session.specs.Moving.{at_end, back_alone_by, begins_step, goes_back, goes_on, is_step, next_in, previous_in, sought_back, sought_on, steps, steps_alone, steps_alone_by, steps_back, steps_by, told_at, told_or, why_in};
+ghost use Rattle.execution_session.specs.Sessions.{state_of};
 
-use crate::knowing::why_in;
-use crate::past::Past;
+use crate::knowing::has_stopped;
 use crate::session::{Session, Standing};
+use execution_moments::{Past, TimePoint, TimeSide, Told};
 use gdb_replies::Reason;
-use gdb_talk::reason_of;
+use gdb_talk::why;
 use moments::Asked;
 use pages::OutOfMemory;
 use std::alloc::Global;
 
-/// What is told in a session, and each moment of a hart beside.
-fn all_told(alloc: Global, session: &Session, each: Option<u32>) -> Result<Asked, OutOfMemory>
+/// Breakpoints and faults are told, and each moment of a hart beside.
+fn asked_in(alloc: Global, session: &Session, each: Option<u32>) -> Result<Asked, OutOfMemory>
     ensures each { IfOk result (λ a. a.each ≡ each) }
     ensures faults { IfOk result (λ a. a.faults ≡ true) }
-    ensures stops { IfOk result (λ a. a.stops.items ≡ (state_of session.now).software
-        ++ (state_of session.now).hardware) }
+    ensures stops { IfOk result (λ a. a.stops.items ≡ (state_of session.now).stops.software
+        ++ (state_of session.now).stops.hardware) }
 {
-    let mut stops = Vec::from_slice(alloc, session.software.as_slice())?;
-    stops.extend_from_slice(session.hardware.as_slice())?;
+    let stops = session.stops.addresses(alloc)?;
     Ok(Asked {
         each,
         faults: true,
@@ -30,107 +32,74 @@ fn all_told(alloc: Global, session: &Session, each: Option<u32>) -> Result<Asked
     })
 }
 
-/// The moments of a hart, and nothing else.
-fn only_of(alloc: Global, hart: u8) -> Asked
-    ensures each { result.each ≡ Some hart }
-    ensures faults { result.faults ≡ false }
-    ensures stops { result.stops.items ≡ [] }
-{
-    Asked {
-        each: Some(u32::from(hart)),
-        faults: false,
-        stops: Vec::new(alloc),
-    }
-}
-
-/// The first time from one on at which something is told.
-fn next_from(
+/// What is told next on the way on from a point.
+fn next_in(
     alloc: Global,
     past: &Past,
     session: &Session,
     each: Option<u32>,
-    from: usize,
-) -> Result<Option<usize>, OutOfMemory>
-    ensures { IfOk result (λ x. x ≡ next_in (looked_at past.now) (state_of session.now) each from) }
+    here: TimePoint,
+) -> Result<Option<Told>, OutOfMemory>
+    ensures { IfOk result (λ x. x ≡ next_in (looked_at past.now) (state_of session.now) each here) }
 {
-    let asked = all_told(alloc, session, each)?;
-    Ok(past.course.next_told(&asked, from))
+    let asked = asked_in(alloc, session, each)?;
+    past.next_told(alloc, &asked, &session.stops.watches, here)
 }
 
-/// The first time behind one.
-fn next_behind(
+/// What is told next on the way back from a point.
+fn previous_in(
     alloc: Global,
     past: &Past,
     session: &Session,
     each: Option<u32>,
-    time: usize,
-) -> Result<Option<usize>, OutOfMemory>
+    here: TimePoint,
+) -> Result<Option<Told>, OutOfMemory>
     ensures { IfOk result (λ x.
-        x ≡ next_in (looked_at past.now) (state_of session.now) each (time + 1)) }
+        x ≡ previous_in (looked_at past.now) (state_of session.now) each here) }
 {
-    let asked = all_told(alloc, session, each)?;
-    Ok(past.course.next_told_behind(&asked, time))
+    let asked = asked_in(alloc, session, each)?;
+    past.previous_told(alloc, &asked, &session.stops.watches, here)
 }
 
-/// The first time that is ahead.
-fn next_ahead(
-    alloc: Global,
-    past: &Past,
-    session: &Session,
-    each: Option<u32>,
-) -> Result<Option<usize>, OutOfMemory>
-    ensures { IfOk result (λ x.
-        x ≡ next_in (looked_at past.now) (state_of session.now) each (ahead session.now.standing)) }
+/// Why one stands where this is told.
+fn why_in(past: &Past, session: &Session, told: &Told) -> Reason
+    ensures { result ≡ why_in (looked_at past.now) (state_of session.now) told.now }
 {
-    let time = session.standing.time;
-    if session.standing.passed {
-        next_behind(alloc, past, session, each, time)
-    } else {
-        next_from(alloc, past, session, each, time)
-    }
+    let there = past.course.hart_at(told.point.time, told.number);
+    session.stops.why(told.watch, there)
 }
 
-/// The last time before the session's at which something is told.
-fn last_before(
-    alloc: Global,
-    past: &Past,
-    session: &Session,
-    each: Option<u32>,
-) -> Result<Option<usize>, OutOfMemory>
-    ensures { IfOk result (λ x.
-        x ≡ previous_in (looked_at past.now) (state_of session.now) each
-        session.now.standing.time) }
+/// It stands at what is told.
+fn tell(past: &Past, session: &Session, told: &Told) -> Standing
+    ensures { result ≡ told_at (looked_at past.now) (state_of session.now) told.now }
 {
-    let asked = all_told(alloc, session, each)?;
-    Ok(past.course.previous_told(&asked, session.standing.time))
-}
-
-/// It stands at what is told at a time.
-fn tell(past: &Past, session: &Session, time: usize) -> Standing
-    ensures { result ≡ told_at (looked_at past.now) (state_of session.now) time }
-{
-    match past.course.moment_at(time) {
-        Some(moment) => {
-            let reason = why_in(session, &moment.hart);
-            session.standing.moved(time, true, reason, moment.number)
-        }
-        None => session.standing,
-    }
+    let reason = why_in(past, session, told);
+    session.standing.moved(told.point, reason, told.number)
 }
 
 /// Where nothing is told any more.
 fn at_end(past: &Past, standing: Standing) -> Standing
     ensures { result ≡ at_end (looked_at past.now) standing }
 {
-    standing.moved(past.end(), true, Reason::End, standing.told)
+    standing.moved(before(past.end()), Reason::End, standing.told)
 }
 
-/// It stands at what is told at a time that was found; elsewhere where none was.
-fn tell_or(past: &Past, session: &Session, found: Option<usize>, otherwise: Standing) -> Standing
+/// Before the instruction at a time.
+fn before(time: usize) -> TimePoint
+    ensures { result ≡ at time Break }
+{
+    TimePoint {
+        time,
+        side: TimeSide::Break,
+    }
+}
+
+/// It stands at what was found; elsewhere where nothing was.
+fn tell_or(past: &Past, session: &Session, found: Option<Told>, otherwise: Standing) -> Standing
     ensures { result ≡ told_or (looked_at past.now) (state_of session.now) otherwise found }
 {
     match found {
-        Some(time) => tell(past, session, time),
+        Some(told) => tell(past, session, &told),
         None => otherwise,
     }
 }
@@ -139,7 +108,7 @@ fn tell_or(past: &Past, session: &Session, found: Option<usize>, otherwise: Stan
 pub(crate) fn go_on(alloc: Global, past: &Past, session: &Session) -> Result<Standing, OutOfMemory>
     ensures { IfOk result (λ t. t ≡ goes_on (looked_at past.now) (state_of session.now)) }
 {
-    let found = next_ahead(alloc, past, session, None)?;
+    let found = next_in(alloc, past, session, None, session.standing.point)?;
     let end = at_end(past, session.standing);
     Ok(tell_or(past, session, found, end))
 }
@@ -152,25 +121,20 @@ pub(crate) fn go_back(
 ) -> Result<Standing, OutOfMemory>
     ensures { IfOk result (λ t. t ≡ goes_back (looked_at past.now) (state_of session.now)) }
 {
-    let found = last_before(alloc, past, session, None)?;
     let standing = session.standing;
-    let start = standing.moved(0, true, Reason::Begin, standing.told);
+    let found = previous_in(alloc, past, session, None, standing.point)?;
+    let start = standing.moved(before(0), Reason::Begin, standing.told);
     Ok(tell_or(past, session, found, start))
 }
 
-/// Whether a step of a hart begins at a time that was found: the moment is before an instruction of its own, and the session stands there
-/// or nothing else is told there.
-fn begins_step(past: &Past, session: &Session, hart: u8, time: usize) -> bool
-    ensures { result ≡ begins_step (looked_at past.now) (state_of session.now) hart time }
+/// Whether a step of a hart begins where this is told: at a moment of its own, where the session stands or nothing else is told.
+fn begins_step(past: &Past, session: &Session, hart: u8, told: &Told) -> bool
+    ensures { result ≡ begins_step (looked_at past.now) (state_of session.now) hart told.now }
 {
-    match past.course.moment_at(time) {
-        Some(moment) => {
-            moment.number == hart
-                && (moment.index.is_some()
-                    && (time <= session.standing.time || is_step(why_in(session, &moment.hart))))
-        }
-        None => false,
-    }
+    let time = told.point.time;
+    told.number == hart
+        && (!has_stopped(past, time, hart)
+            && (time <= session.standing.point.time || is_step(why_in(past, session, told))))
 }
 
 fn is_step(reason: Reason) -> bool
@@ -179,6 +143,20 @@ fn is_step(reason: Reason) -> bool
     match reason {
         Reason::Step => true,
         _ => false,
+    }
+}
+
+/// From where a step of a hart is sought: where it stands at a moment of the hart's own, whatever was told there.
+fn sought_on(past: &Past, here: TimePoint, hart: u8) -> TimePoint
+    ensures { result ≡ sought_on (looked_at past.now) here hart }
+{
+    if past.course.is_of(hart, here.time) {
+        TimePoint {
+            time: here.time,
+            side: TimeSide::Between,
+        }
+    } else {
+        here
     }
 }
 
@@ -192,15 +170,11 @@ pub(crate) fn step(
     ensures { IfOk result (λ t. t ≡ steps (looked_at past.now) (state_of session.now) hart) }
 {
     let standing = session.standing;
-    if past.has_stopped(standing.time, hart) {
+    if has_stopped(past, standing.point.time, hart) {
         return Ok(standing.stays(Reason::End, hart));
     }
-    let each = Some(u32::from(hart));
-    let first = if past.course.is_of(hart, standing.time) {
-        next_from(alloc, past, session, each, standing.time)?
-    } else {
-        next_ahead(alloc, past, session, each)?
-    };
+    let from = sought_on(past, standing.point, hart);
+    let first = next_in(alloc, past, session, Some(u32::from(hart)), from)?;
     step_from(alloc, past, session, hart, first)
 }
 
@@ -210,7 +184,7 @@ fn step_from(
     past: &Past,
     session: &Session,
     hart: u8,
-    first: Option<usize>,
+    first: Option<Told>,
 ) -> Result<Standing, OutOfMemory>
     ensures { IfOk result (λ t.
         t ≡ steps_by (looked_at past.now) (state_of session.now) hart first) }
@@ -219,25 +193,54 @@ fn step_from(
     let Some(first) = first else {
         return Ok(end);
     };
-    if !begins_step(past, session, hart, first) {
-        return Ok(tell(past, session, first));
+    if !begins_step(past, session, hart, &first) {
+        return Ok(tell(past, session, &first));
     }
-    let found = next_behind(alloc, past, session, Some(u32::from(hart)), first)?;
+    let from = session.standing.point.or_later(first.point);
+    let found = next_in(alloc, past, session, Some(u32::from(hart)), from)?;
     Ok(tell_or(past, session, found, end))
 }
 
-/// A step of a hart alone: it ends right behind the instruction, and of others nothing is told.
-pub(crate) fn step_alone(past: &Past, session: &Session, hart: u8) -> Standing
-    ensures { result ≡ steps_alone (looked_at past.now) (state_of session.now) hart }
+/// A step of a hart alone: it ends right behind the instruction, or at what watchpoints tell of it; of others nothing is told.
+pub(crate) fn step_alone(
+    alloc: Global,
+    past: &Past,
+    session: &Session,
+    hart: u8,
+) -> Result<Standing, OutOfMemory>
+    ensures { IfOk result (λ t. t ≡ steps_alone (looked_at past.now) (state_of session.now) hart) }
 {
     let standing = session.standing;
-    if past.has_stopped(standing.time, hart) {
-        return standing.stays(Reason::End, hart);
+    if has_stopped(past, standing.point.time, hart) {
+        return Ok(standing.stays(Reason::End, hart));
     }
-    match past.course.next_of(standing.time, hart) {
-        Some(own) => standing.moved(own + 1, false, Reason::Step, hart),
-        None => at_end(past, standing),
-    }
+    let own = past.course.next_of(standing.point.time, hart);
+    step_alone_from(alloc, past, session, hart, own)
+}
+
+/// The same where the hart's next instruction is at this time.
+fn step_alone_from(
+    alloc: Global,
+    past: &Past,
+    session: &Session,
+    hart: u8,
+    own: Option<usize>,
+) -> Result<Standing, OutOfMemory>
+    requires within { IfSome own (λ own. own < length past.now.course.sequence.items) }
+    ensures { IfOk result (λ t.
+        t ≡ steps_alone_by (looked_at past.now) (state_of session.now) hart own) }
+{
+    let standing = session.standing;
+    let Some(own) = own else {
+        return Ok(at_end(past, standing));
+    };
+    let behind = TimePoint {
+        time: own + 1,
+        side: TimeSide::Between,
+    };
+    let alone = standing.moved(behind, Reason::Step, hart);
+    let found = past.access_on(alloc, &session.stops.watches, standing.point, own)?;
+    Ok(tell_or(past, session, found, alone))
 }
 
 /// A step back: of the hart alone that is to move so, if there is one, and else of the one that is asked about, in which the others go
@@ -251,24 +254,48 @@ pub(crate) fn step_back(
 {
     let standing = session.standing;
     if let Some(hart) = standing.moving {
-        return Ok(step_back_alone(alloc, past, standing, hart));
+        return step_back_alone(alloc, past, session, hart, standing.point.time);
     }
     let general = standing.general;
-    let found = last_before(alloc, past, session, Some(u32::from(general)))?;
+    let from = sought_back(past, standing.point, general);
+    let found = previous_in(alloc, past, session, Some(u32::from(general)), from)?;
     let none = standing.stays(Reason::Begin, general);
     Ok(tell_or(past, session, found, none))
 }
 
-fn step_back_alone(alloc: Global, past: &Past, standing: Standing, hart: u8) -> Standing
-    ensures { result ≡ back_alone_to (looked_at past.now) standing hart
-        (previous_by past.now.course (Some hart) false [] standing.time) }
+/// From where a step back of a hart is sought.
+fn sought_back(past: &Past, here: TimePoint, hart: u8) -> TimePoint
+    ensures { result ≡ sought_back (looked_at past.now) here hart }
 {
-    let asked = only_of(alloc, hart);
-    let Some(time) = past.course.previous_told(&asked, standing.time) else {
-        return standing.stays(Reason::Begin, hart);
-    };
-    match past.course.moment_at(time) {
-        Some(moment) => standing.moved(time, true, reason_of(&[], &[], &moment.hart), hart),
-        None => standing,
+    match here.side {
+        TimeSide::After | TimeSide::Between => here,
+        TimeSide::Break | TimeSide::Access => {
+            if past.course.is_of(hart, here.time) {
+                before(here.time)
+            } else {
+                here
+            }
+        }
     }
+}
+
+/// A step back of a hart alone, to its last instruction before a time.
+fn step_back_alone(
+    alloc: Global,
+    past: &Past,
+    session: &Session,
+    hart: u8,
+    time: usize,
+) -> Result<Standing, OutOfMemory>
+    ensures { IfOk result (λ t. t ≡ back_alone_by (looked_at past.now) (state_of session.now) hart
+        (previous_of past.now.course time hart)) }
+{
+    let standing = session.standing;
+    let Some(own) = past.course.previous_of(time, hart) else {
+        return Ok(standing.stays(Reason::Begin, hart));
+    };
+    let reason = why(&[], &[], past.course.hart_at(own, hart));
+    let alone = standing.moved(before(own), reason, hart);
+    let found = past.access_back(alloc, &session.stops.watches, standing.point, own + 1)?;
+    Ok(tell_or(past, session, found, alone))
 }

@@ -9,11 +9,10 @@ ghost use Rattle.execution_scripts.specs.declared.checking.Finding.TheVariants.{
 ghost use Rattle.execution_session.specs.Opening.{IsOpened};
 ghost use Rattle.trace.specs.Traced.{opening_at};
 
-use crate::past::Past;
 use elf_loader::Image;
 use execution_checker::{Execution, Verdict};
 use execution_file::ExecutionFile;
-use execution_moments::{Course, check_moments};
+use execution_moments::{Course, Past, check_moments};
 use execution_scripts::{
     Checked, Fault, Finding, Misfit, Said, Sights, check_file, open_execution, order_said,
 };

@@ -1,9 +1,9 @@
 ghost use Rattle.std.specs.Prelude.{◌≡◌, ◌∷◌, ◌++◌, ℕ, List, IfOk, OnOk};
-ghost use Rattle.execution_session.specs.Sessions.{looked_at};
+ghost use Rattle.execution_moments.specs.Looked.{looked_at};
 ghost use Rattle.execution_session.specs.Serving.{HasEnded, Served, ServesOn, Talking, talking};
 
-use crate::past::Past;
 use crate::talk::Talk;
+use execution_moments::Past;
 use gdb_packets::{Reader, acknowledge};
 use gdb_talk::{refuse_lost, say};
 use host_io::{RunError, Sink, Source};

@@ -1,16 +1,17 @@
-ghost use Rattle.std.specs.Prelude.{◌≡◌, []};
+ghost use Rattle.std.specs.Prelude.{◌≡◌};
+ghost use Rattle.gdb_talk.specs.Stops.{no_stops, stopping};
 ghost use Rattle.execution_session.specs.Sessions.{moved, opening_standing, stays};
 
+use execution_moments::{TimePoint, TimeSide};
 use gdb_replies::Reason;
+use gdb_talk::Stops;
 use std::alloc::Global;
 
 /// Where a debugger's session stands, and of which harts it speaks.
 #[derive(Clone, Copy)]
 pub struct Standing {
-    /// The time. What is told before it is told on the way back.
-    pub time: usize,
-    /// Whether what is told at this time itself is behind, on the way on.
-    pub passed: bool,
+    /// Where: what is told before this point is told on the way back, and what is told behind it on the way on.
+    pub point: TimePoint,
     /// Why the execution stands there.
     pub reason: Reason,
     /// The hart that the reason speaks of.
@@ -25,42 +26,39 @@ pub struct Standing {
 #[derive(Drop)]
 pub struct Session {
     pub standing: Standing,
-    /// The addresses of breakpoints that gdb calls software breakpoints.
-    pub software: Vec<u64>,
-    /// Those of its hardware breakpoints.
-    pub hardware: Vec<u64>,
+    /// Its breakpoints and watchpoints.
+    pub stops: Stops,
 }
 
 impl Session {
-    /// It stands at the first moment, and there are no breakpoints.
+    /// It stands at the first moment, and there are no breakpoints and watchpoints.
     pub fn new(alloc: Global) -> Session
         ensures standing { result.standing ≡ opening_standing }
-        ensures software { result.software.items ≡ [] }
-        ensures hardware { result.hardware.items ≡ [] }
+        ensures stops { stopping result.stops ≡ no_stops }
     {
         Session {
             standing: Standing {
-                time: 0,
-                passed: true,
+                point: TimePoint {
+                    time: 0,
+                    side: TimeSide::Break,
+                },
                 reason: Reason::Step,
                 told: 0,
                 general: 0,
                 moving: None,
             },
-            software: Vec::new(alloc),
-            hardware: Vec::new(alloc),
+            stops: Stops::new(alloc),
         }
     }
 }
 
 impl Standing {
-    /// It stands at another time.
-    pub(crate) fn moved(self, time: usize, passed: bool, reason: Reason, hart: u8) -> Standing
-        ensures { result ≡ moved self time passed reason hart }
+    /// It stands at another point.
+    pub(crate) fn moved(self, point: TimePoint, reason: Reason, hart: u8) -> Standing
+        ensures { result ≡ moved self point reason hart }
     {
         Standing {
-            time,
-            passed,
+            point,
             reason,
             told: hart,
             general: hart,
@@ -72,6 +70,6 @@ impl Standing {
     pub(crate) fn stays(self, reason: Reason, hart: u8) -> Standing
         ensures { result ≡ stays self reason hart }
     {
-        self.moved(self.time, self.passed, reason, hart)
+        self.moved(self.point, reason, hart)
     }
 }

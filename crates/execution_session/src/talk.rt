@@ -2,14 +2,15 @@
 
 ghost use Rattle.std.specs.Prelude.{◌≡◌};
 ghost use Rattle.gdb_packets.specs.Views.{told_in};
-ghost use Rattle.execution_session.specs.Sessions.{looked_at, state_of};
+ghost use Rattle.execution_moments.specs.Looked.{looked_at};
+ghost use Rattle.execution_session.specs.Sessions.{state_of};
 ghost use Rattle.execution_session.specs.Serving.{HearsBy, RepliesTo, begun, talking};
 ghost use Rattle.gdb_talk.specs.Asking.{asked_by, ends};
 ghost use Rattle.gdb_talk.specs.Saying.{response_text};
 
 use crate::answering::answer;
-use crate::past::Past;
 use crate::session::Session;
+use execution_moments::Past;
 use gdb_packets::{Item, Request};
 use gdb_talk::{Response, asked_by, has_left};
 use pages::OutOfMemory;

@@ -1,12 +1,14 @@
 //! The list of threads.
 
 ghost use Rattle.std.specs.Prelude.{◌≡◌, ◌++◌, ◌+◌, IfOk, OnOk, codes};
-ghost use Rattle.execution_session.specs.Sessions.{looked_at, position_at};
+ghost use Rattle.execution_moments.specs.Looked.{looked_at};
+ghost use Rattle.execution_session.specs.Sessions.{position_at};
 ghost use Rattle.execution_session.specs.Threads.{state_text, thread_element, thread_entries, thread_entry, thread_list};
 ghost use Rattle.execution_moments.specs.Shown.{hart_at};
 ghost use Rattle.gdb_replies.specs.Replies.{thread_list_begin, thread_list_end};
 
-use crate::past::Past;
+use crate::knowing::position_at;
+use execution_moments::Past;
 use gdb_replies::{begin_thread_list, end_thread_list, put, put_words};
 use hart_step::{Hart, Stop};
 use pages::OutOfMemory;
@@ -61,7 +63,7 @@ fn put_entry(text: &mut Vec<u8>, past: &Past, time: usize, number: u8) -> Result
 {
     match past.course.hart_at(time, number) {
         Some(hart) => {
-            let position = past.position_at(time, number);
+            let position = position_at(past, time, number);
             put_thread(text, number, &hart, position)
         }
         None => Ok(()),

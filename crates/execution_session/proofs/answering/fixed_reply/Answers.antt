@@ -1,4 +1,4 @@
-use Rattle.execution_session.specs.Sessions.{looked_at}
+use Rattle.execution_moments.specs.Looked.{looked_at}
 use Rattle.execution_session.proofs.Arriving.{not_fixed}
 use Rattle.execution_session.proofs.answering.fixed_reply.Goals as goal
 

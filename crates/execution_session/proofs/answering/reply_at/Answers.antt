@@ -1,7 +1,7 @@
 use Rattle.std.proofs.Common.{ℕ, List, ap, sym, ◌∙◌}
 use Rattle.std.proofs.lemmas.Result.{IfOk-weaker}
 use Rattle.gdb_packets.specs.Writing.{packet_text}
-use Rattle.execution_session.specs.Sessions.{looked_at}
+use Rattle.execution_moments.specs.Looked.{looked_at}
 use Rattle.execution_session.proofs.Arriving.{not_known}
 use Rattle.execution_session.proofs.answering.reply_at.Goals as goal
 

@@ -5,7 +5,7 @@ use Rattle.gdb_packets.specs.Views.{told_in}
 use Rattle.gdb_packets.specs.declared.item.Item.{Item}
 use Rattle.gdb_talk.specs.Saying.{refused_text, response_text}
 use Rattle.execution_session.specs.Serving.{Hears, begun, talking}
-use Rattle.execution_session.specs.Sessions.{looked_at}
+use Rattle.execution_moments.specs.Looked.{looked_at}
 use Rattle.gdb_talk.proofs.Going.{serves_more, serves_said}
 use Rattle.execution_session.proofs.serving.hear_next.Goals as goal
 

@@ -1,6 +1,6 @@
 use Rattle.std.proofs.Common.{ℕ, Bool, List, [], sym, subst}
 use Rattle.execution_session.specs.Serving.{Hears, Served, ServesOn, Talking, begun, talking}
-use Rattle.execution_session.specs.Sessions.{looked_at}
+use Rattle.execution_moments.specs.Looked.{looked_at}
 use Rattle.gdb_talk.proofs.Going.{serves_none}
 use Rattle.execution_session.proofs.serving.serve.Goals as goal
 

@@ -1,5 +1,5 @@
 use Rattle.execution_session.specs.Serving.{Served, talking}
-use Rattle.execution_session.specs.Sessions.{looked_at}
+use Rattle.execution_moments.specs.Looked.{looked_at}
 use Rattle.execution_session.proofs.serving.serve.Given as goal
 
 abbrev pub invariant-loop-i : goal.invariant-loop-i

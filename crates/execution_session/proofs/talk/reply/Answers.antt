@@ -2,7 +2,8 @@ use Rattle.std.proofs.Common.{[], inl, inr, refl, sym, subst}
 use Rattle.gdb_packets.specs.declared.request.Request.{Request}
 use Rattle.gdb_talk.proofs.Killing.{unless_kill}
 use Rattle.execution_session.specs.Serving.{RepliesTo}
-use Rattle.execution_session.specs.Sessions.{looked_at, state_of}
+use Rattle.execution_moments.specs.Looked.{looked_at}
+use Rattle.execution_session.specs.Sessions.{state_of}
 use Rattle.execution_session.proofs.talk.reply.Goals as goal
 
 pub returns-in-Kill : goal.returns-in-Kill

@@ -1,7 +1,8 @@
 use Rattle.std.proofs.Common.{◌≡◌, ℕ, ◌+◌, ◌++◌, List, ap, sym, ◌∙◌, append_assoc, add-one}
 use Rattle.gdb_replies.specs.Replies.{thread_list_begin}
 use Rattle.execution_moments.specs.Shown.{hart_at}
-use Rattle.execution_session.specs.Sessions.{Looked, looked_at, position_at}
+use Rattle.execution_moments.specs.Looked.{Looked, looked_at}
+use Rattle.execution_session.specs.Sessions.{position_at}
 use Rattle.execution_session.specs.Threads.{thread_entries, thread_entry}
 use Rattle.execution_session.proofs.threads.thread_list.Goals as goal
 

@@ -1,6 +1,6 @@
 use Rattle.std.proofs.Common.{◌≡◌, ◌++◌}
 use Rattle.gdb_replies.specs.Replies.{thread_list_begin}
-use Rattle.execution_session.specs.Sessions.{looked_at}
+use Rattle.execution_moments.specs.Looked.{looked_at}
 use Rattle.execution_session.specs.Threads.{thread_entries}
 use Rattle.execution_session.proofs.threads.thread_list.Given as goal
 
