@@ -1,0 +1,15 @@
+mod Accesses
+mod Behind
+mod Bounds
+mod Branches
+mod Exits
+mod LateBehind
+mod LateRuns
+mod LateSpots
+mod Loads
+mod Moves
+mod Numbers
+mod OwnStores
+mod Points
+mod Raising
+mod StoresListed
