@@ -1,10 +1,10 @@
-pub mod ApartMoves
-pub mod Covering
-pub mod KeptLists
+mod ApartMoves
+mod Covering
+mod KeptLists
 mod LaterLoads
 pub mod Mirroring
-pub mod OwnStores
+mod OwnStores
 mod PrivateTimes
-pub mod SharedLists
-pub mod SpotMoves
-pub mod Together
+mod SharedLists
+mod SpotMoves
+mod Together

@@ -49,7 +49,6 @@ fn is_raised(before: &[TouchedByte], index: usize, touched: usize) -> bool {
 }
 
 /// Whether a hart owes a store to a byte, and an operation on that stands behind the store's place in the list.
-#[tactic(auto, using(crate::proofs::Losing::lost_at))]
 fn is_past_due(hart: u8, list: &[ListedStore], place: &Place, address: u64) -> bool
     ensures { IsTrue result → IsLost hart (listed list.now) (place_of place.now) }
 {

@@ -1,7 +1,0 @@
-pub mod Checking
-pub mod EarlyMaps
-pub mod Flows
-pub mod LateRuns
-pub mod LateSpots
-pub mod Laws
-pub mod Windows
