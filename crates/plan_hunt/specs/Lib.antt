@@ -3,7 +3,7 @@ pub mod Endings
 pub mod Joining
 pub mod Tables
 pub mod Extents
-pub mod Working
+pub mod Slots
 pub mod Numbers
 pub mod Steps
 pub mod Tried

@@ -1,6 +1,6 @@
 ghost use Rattle.std.specs.Prelude.{◌≡◌, ◌+◌, ◌<◌, ◌≤◌, ◌^◌, [], All, IfOk, IfSome, None, OnOk, false, length};
 ghost use Rattle.plan_hunt.specs.Extents.{IsTally};
-ghost use Rattle.plan_hunt.specs.Working.{AreSlots, IsFound};
+ghost use Rattle.plan_hunt.specs.Slots.{AreSlots};
 ghost use denote.Param.Send.{IsSync};
 
 use crate::adding::add;
@@ -11,12 +11,11 @@ use crate::runs::Runs;
 use crate::tabulating::next_block;
 use crate::tally::Tally;
 use crate::task::Task;
-use crate::working::{Found, put, work};
+use many_makers::make_each;
 use pages::OutOfMemory;
 use std::alloc::Global;
 use std::sync::Wait;
-use std::sync::atomic::AtomicU64;
-use std::thread::{self, Threads};
+use std::thread::Threads;
 
 /// Adds the endings of the next block's plans to the table of the plans before them.
 pub(crate) fn tabulate_block<Q: Runs + Sync, O: HuntObserver + Sync, R: Threads + Wait + Sync>(
@@ -60,67 +59,33 @@ fn found<Q: Runs + Sync, O: HuntObserver + Sync, R: Threads + Wait + Sync>(
     ensures count { IfOk result (λ v. length v.items ≡ task.now.count) }
     ensures slots { IfOk result (λ v. AreSlots (Q.ends runs.now) task.now.first v.items) }
 {
-    let mut slots = empty_slots(alloc, task.count)?;
-    let mut seats = empty_seats(alloc, workers)?;
-    search(rt, runs, task, &mut seats);
-    while let Some(found) = seats.pop() {
-        put(&mut slots, found);
-    }
-    Ok(slots)
+    let run = |index: u32|
+        requires { IsSync R.row × (task.now.first + task.now.count < 2 ^ 32) ×
+            (index < task.now.count) }
+        ensures { IfSome result (λ e. e ≡ Q.ends runs.entry.now (task.entry.now.first + index)) }
+    { run_at(rt, runs, task, index) };
+    let is_last = |ending: &Ending| task.is_last(ending);
+    make_each(rt, alloc, task.count, workers, &run, &is_last)
 }
 
-/// A slot for each plan, with nothing in it.
-fn empty_slots(alloc: Global, count: u32) -> Result<Vec<Option<Ending>>, OutOfMemory>
-    ensures count { IfOk result (λ v. length v.items ≡ count) }
-    ensures empty { IfOk result (λ v. All (λ s. s ≡ None) v.items) }
-{
-    let mut slots = Vec::new(alloc);
-    for _ in 0..count {
-        if slots.push(None).is_err() {
-            return Err(OutOfMemory);
-        }
-    }
-    Ok(slots)
-}
-
-/// A list for each worker, with nothing in it.
-fn empty_seats(alloc: Global, workers: u32) -> Result<Vec<Vec<Found>>, OutOfMemory>
-    ensures { IfOk result (λ v. All (λ s. s.items ≡ []) v.items) }
-{
-    let mut seats = Vec::new(alloc);
-    for _ in 0..workers {
-        if seats.push(Vec::new(alloc)).is_err() {
-            return Err(OutOfMemory);
-        }
-    }
-    Ok(seats)
-}
-
-/// Has as many workers as there are seats run plans.
-fn search<Q: Runs + Sync, O: HuntObserver + Sync, R: Threads + Wait + Sync>(
+/// The ending of the plan at an index of the block; none where there is no more time, or its run was refused memory.
+fn run_at<Q: Runs, O: HuntObserver, R: Threads + Wait + Sync>(
     rt: &R,
     runs: &Q,
     task: &Task<'_, O>,
-    seats: &mut [Vec<Found>],
-)
+    index: u32,
+) -> Option<Ending>
     requires sync { IsSync R.row }
     requires few { task.now.first + task.now.count < 2 ^ 32 }
-    requires found { All (λ s. All (IsFound (Q.ends runs.now) task.now.first) s.items) seats.old }
-    ensures { All (λ s. All (IsFound (Q.ends runs.now) task.now.first) s.items) seats.new }
+    requires within { index < task.now.count }
+    ensures { IfSome result (λ e. e ≡ Q.ends runs.now (task.now.first + index)) }
 {
-    let next = AtomicU64::new(0);
-    let workers = seats.len().max(1);
-    thread::for_each_mut(
-        rt,
-        seats,
-        workers,
-        &|_, found: &mut Vec<Found>|
-            requires { IsSync R.row × (task.now.first + task.now.count < 2 ^ 32) ×
-                All (IsFound (Q.ends runs.now) task.now.first) found.now.items }
-            ensures { All (IsFound (Q.ends runs.entry.now) task.entry.now.first)
-                found.exit.now.items }
-        { work(rt, runs, task, &next, found) },
-    );
+    if task.is_out_of_time() {
+        return None;
+    }
+    let ending = runs.run(rt, task.first + index).ok()?;
+    task.observer.after_plan();
+    Some(ending)
 }
 
 /// Adds the endings in the slots to the table, in the order of the plans, up to the one with which the hunt is over. The plans whose slots

@@ -22,7 +22,6 @@ mod step;
 mod tabulating;
 mod tally;
 mod task;
-mod working;
 
 pub use adding::index_of;
 pub use ending::Ending;

@@ -1,10 +1,10 @@
-ghost use Rattle.std.specs.Prelude.{◌<◌, IfSome};
+ghost use Rattle.std.specs.Prelude.{◌≡◌, ◌↔◌, IsTrue, true};
+ghost use Rattle.plan_hunt.specs.Extents.{IsSought, start_of};
 
 use crate::ending::Ending;
 use crate::extent::Extent;
 use crate::observing::HuntObserver;
 use crate::row::Row;
-use std::sync::atomic::{AtomicU64, Ordering};
 
 /// What the workers of a block of plans do.
 #[derive(Clone, Copy)]
@@ -21,28 +21,18 @@ pub struct Task<'a, O> {
 }
 
 impl<O: HuntObserver> Task<'_, O> {
-    /// Claims the next plan for a worker, and tells its index in the block. There is none where all are claimed, where the hunt is over, and
-    /// where there is no more time.
-    pub fn claim(&self, next: &AtomicU64) -> Option<u32>
-        ensures { IfSome result (λ index. index < self.now.count) }
+    /// Whether there is no more time.
+    pub fn is_out_of_time(&self) -> bool
+        ensures { IsTrue result → self.now.extent.is_timed ≡ true }
     {
-        if self.extent.is_timed && !self.observer.has_time() {
-            return None;
-        }
-        let index = next.fetch_add(1, Ordering::SeqCst);
-        if index < u64::from(self.count) {
-            Some(index as u32)
-        } else {
-            None
-        }
+        self.extent.is_timed && !self.observer.has_time()
     }
 
-    /// Learns the ending of a plan that was claimed. Where the hunt is over with it no more plans are claimed: those before it were claimed
-    /// before it.
-    pub fn note(&self, next: &AtomicU64, ending: &Ending) {
-        if self.extent.until.is_over_with(self.rows, ending) {
-            next.store(u64::from(self.count), Ordering::SeqCst);
-        }
-        self.observer.after_plan();
+    /// Whether the hunt is over with an ending of the block.
+    pub fn is_last(&self, ending: &Ending) -> bool
+        ensures { IsTrue result ↔
+            IsSought self.now.extent.until (start_of self.now.rows.now ending.now) ending.now }
+    {
+        self.extent.until.is_over_with(self.rows, ending)
     }
 }

@@ -3,19 +3,12 @@ ghost use Rattle.std.specs.Prelude.{◌≡◌, ◌+◌, ◌<◌, ◌^◌, IfOk, 
 use crate::guest::Guest;
 use crate::looking::seen_of;
 use hunter::ending_of_stop;
+use many_makers::make_each;
 use pages::OutOfMemory;
 use plan_hunt::{Ending, HartEnding, HuntObserver, Task};
 use std::alloc::Global;
-use std::sync::atomic::AtomicU64;
-use std::thread::{self, Threads};
+use std::thread::Threads;
 use timed_machine::TimedMachine;
-
-/// The ending of an execution, which is told by its index in the block.
-#[derive(Drop)]
-struct Found {
-    index: u32,
-    ending: Ending,
-}
 
 /// The endings of a block of executions, found by workers that make executions at the same time, a slot for each number. A slot is empty
 /// where they left the execution out.
@@ -32,68 +25,24 @@ pub(crate) fn execute_block<O: HuntObserver + Sync, R: Threads + Sync>(
     requires few { task.now.first + task.now.count < 2 ^ 32 }
     ensures { IfOk result (λ v. length v.items ≡ task.now.count) }
 {
-    let next = AtomicU64::new(0);
-    let work = |_worker: usize|
-        requires { task.now.first + task.now.count < 2 ^ 32 }
-    { work(guest, task, &next) };
-    let lists = thread::map_indices(rt, guest.alloc, workers as usize, &work)?;
-    filled_slots(guest.alloc, task.count, lists)
+    let execute = |index: u32|
+        requires { (task.now.first + task.now.count < 2 ^ 32) × (index < task.now.count) }
+    { execute_at(guest, task, index) };
+    let is_last = |ending: &Ending| task.is_last(ending);
+    make_each(rt, guest.alloc, task.count, workers, &execute, &is_last)
 }
 
-/// A slot for each execution, with what was found in it.
-fn filled_slots(
-    alloc: Global,
-    count: u32,
-    lists: Vec<Vec<Found>>,
-) -> Result<Vec<Option<Ending>>, OutOfMemory>
-    ensures { IfOk result (λ v. length v.items ≡ count) }
+/// The ending of the execution at an index of the block; none where there is no more time, or it was refused memory.
+fn execute_at<O: HuntObserver>(guest: &Guest<'_>, task: &Task<'_, O>, index: u32) -> Option<Ending>
+    requires few { task.now.first + task.now.count < 2 ^ 32 }
+    requires within { index < task.now.count }
 {
-    let mut slots = empty_slots(alloc, count)?;
-    for list in lists {
-        put(&mut slots, list);
+    if task.is_out_of_time() {
+        return None;
     }
-    Ok(slots)
-}
-
-/// A slot for each execution, with nothing in it.
-fn empty_slots(alloc: Global, count: u32) -> Result<Vec<Option<Ending>>, OutOfMemory>
-    ensures { IfOk result (λ v. length v.items ≡ count) }
-{
-    let mut slots = Vec::new(alloc);
-    for _ in 0..count {
-        slots.push(None)?;
-    }
-    Ok(slots)
-}
-
-/// Puts what was found into the slots of the executions.
-fn put(slots: &mut [Option<Ending>], found: Vec<Found>) {
-    for one in found {
-        let index = one.index as usize;
-        if index < slots.len() {
-            slots[index] = Some(one.ending);
-        }
-    }
-}
-
-/// Claims executions of a block and makes them until there is none to be claimed, or until memory is refused.
-fn work<O: HuntObserver>(guest: &Guest<'_>, task: &Task<'_, O>, next: &AtomicU64) -> Vec<Found>
-    requires { task.now.first + task.now.count < 2 ^ 32 }
-{
-    let mut found = Vec::new(guest.alloc);
-    for _ in 0..task.count {
-        let Some(index) = task.claim(next) else {
-            break;
-        };
-        let Ok(ending) = executed(guest, task.first + index, task.observer) else {
-            break;
-        };
-        task.note(next, &ending);
-        if found.push(Found { index, ending }).is_err() {
-            break;
-        }
-    }
-    found
+    let ending = executed(guest, task.first + index, task.observer).ok()?;
+    task.observer.after_plan();
+    Some(ending)
 }
 
 /// The ending of the execution of a number. An observer learns of its rounds.

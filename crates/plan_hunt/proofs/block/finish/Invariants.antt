@@ -1,6 +1,6 @@
 use Rattle.std.proofs.Common.{◌≡◌, ◌+◌, false}
 use Rattle.plan_hunt.specs.Extents.{IsTally}
-use Rattle.plan_hunt.specs.Working.{AreSlots}
+use Rattle.plan_hunt.specs.Slots.{AreSlots}
 use Rattle.plan_hunt.proofs.block.finish.Given as goal
 
 -- the table of the plans so far, and the slots
