@@ -6,13 +6,13 @@ use crate::world::HostWorld;
 use fence_finder::{FenceFinder, FenceSettings, FoundFences, TimedExecuter};
 use host_io::Sink;
 use hunt_commands::{Finds, WeakHunts};
-use hunter::HuntSettings;
 use plan_hunt::Tally;
+use program_files::ProgramFiles;
 use std::alloc::Global;
 use std::sync::Wait;
 use std::thread::Threads;
 use weak_commands::{FenceFinds, FenceSearches};
-use weak_hunter::{WeakHuntError, hunt_weakly};
+use weak_hunter::{WeakHunt, WeakHuntError, hunt_weakly};
 
 impl WeakHunts for HostWorld<'_> {
     ghost hunts = { λ _ _ _ _ _ _. ⊤ };
@@ -21,14 +21,12 @@ impl WeakHunts for HostWorld<'_> {
         &self,
         rt: &R,
         alloc: Global,
-        image: &[u8],
-        input: &[u8],
-        settings: &HuntSettings,
-        steps: u32,
+        files: &ProgramFiles,
+        asked: &WeakHunt<'_>,
         finds: &Finds<'_, Self::Progress, Self>,
         out: &mut S,
     ) -> Result<Tally, WeakHuntError> {
-        hunt_weakly(rt, alloc, image, input, settings, steps, finds, out)
+        hunt_weakly(rt, alloc, &files.image, &files.input, asked, finds, out)
     }
 }
 
@@ -39,8 +37,7 @@ impl FenceSearches for HostWorld<'_> {
         &self,
         rt: &R,
         alloc: Global,
-        image: &[u8],
-        input: &[u8],
+        files: &ProgramFiles,
         settings: FenceSettings,
         finds: &FenceFinds<'_, Self::Progress, Self>,
         out: &mut S,
@@ -49,6 +46,6 @@ impl FenceSearches for HostWorld<'_> {
             executer: &TimedExecuter,
             observer: finds,
         };
-        finder.find_fences(rt, alloc, image, input, settings, out)
+        finder.find_fences(rt, alloc, &files.image, &files.input, settings, out)
     }
 }

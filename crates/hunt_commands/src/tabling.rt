@@ -21,7 +21,7 @@ use program_files::ProgramFiles;
 use std::alloc::Global;
 use std::sync::Wait;
 use std::thread::Threads;
-use weak_hunter::WeakHuntError;
+use weak_hunter::{WeakHunt, WeakHuntError};
 
 /// Hunts by plans or, where the table is to be a weak one, by executions of so many steps, and writes the table of endings. Answers it.
 pub(crate) fn write_rows<S: Sink, W: WeakHunts + Sync, R: Threads + Wait + Sync>(
@@ -58,11 +58,13 @@ where
         (result ≡ Err (Hunt (hunting.Run refusals.OutOfMemory))) }
     ensures ranges { IfOk result (λ _. has_bad_range settings.now ≡ false) }
 {
-    let (image, input) = (files.image.as_slice(), files.input.as_slice());
     if settings.header.is_weak {
-        let world = finds.world;
-        return world.hunt_weakly(threads, alloc, image, input, settings, steps, finds, out);
+        let asked = WeakHunt { settings, steps };
+        return finds
+            .world
+            .hunt_weakly(threads, alloc, files, &asked, finds, out);
     }
+    let (image, input) = (files.image.as_slice(), files.input.as_slice());
     match hunt(threads, alloc, image, input, settings, finds, out) {
         Ok(tally) => Ok(tally),
         Err(error) => Err(WeakHuntError::Hunt(error)),

@@ -16,13 +16,12 @@ ghost use Rattle.weak_hunter.specs.declared.error.WeakHuntError.TheVariants.{Hun
 
 use crate::finds::Finds;
 use host_io::Sink;
-use hunter::HuntSettings;
 use plan_hunt::Tally;
-use program_files::World;
+use program_files::{ProgramFiles, World};
 use std::alloc::Global;
 use std::sync::Wait;
 use std::thread::Threads;
-use weak_hunter::WeakHuntError;
+use weak_hunter::{WeakHunt, WeakHuntError};
 
 /// A world that makes weak hunts. No definition says what so many steps of an execution lead to: so that is a relation, which a command can
 /// only get by a call with these steps.
@@ -41,37 +40,39 @@ pub trait WeakHunts: World + Sized {
         &self,
         rt: &R,
         alloc: Global,
-        image: &[u8],
-        input: &[u8],
-        settings: &HuntSettings,
-        steps: u32,
+        files: &ProgramFiles,
+        asked: &WeakHunt<'_>,
         finds: &Finds<'_, Self::Progress, Self>,
         out: &mut S,
     ) -> Result<Tally, WeakHuntError>
         requires sync { IsSync R.row }
-        requires weak { settings.now.header.is_weak ≡ true }
+        requires weak { asked.now.settings.now.header.is_weak ≡ true }
         ensures hunts { IfOk result (λ t.
-            IsWeaklyHunted settings.now image.now input.now t.done t.rows.items ×
-            hunts settings.now image.now input.now steps t.done t.rows.items ×
+            IsWeaklyHunted asked.now.settings.now files.now.image.items files.now.input.items
+            t.done t.rows.items ×
+            hunts asked.now.settings.now files.now.image.items files.now.input.items
+            asked.now.steps t.done t.rows.items ×
             (S.took out.new ≡ S.took out.old
-            ++ table_text (with_count settings.now.header t.done) t.rows.items)) }
+            ++ table_text (with_count asked.now.settings.now.header t.done) t.rows.items)) }
         ensures begun { OnErr result ((S.took out.new ≡ S.took out.old) ⊎
             ((n : ℕ) × (rows : List TableRow) ×
-            IsWeaklyHunted settings.now image.now input.now n rows ×
-            hunts settings.now image.now input.now steps n rows ×
+            IsWeaklyHunted asked.now.settings.now files.now.image.items files.now.input.items n
+            rows ×
+            hunts asked.now.settings.now files.now.image.items files.now.input.items
+            asked.now.steps n rows ×
             BeganText (S.took out.old) (S.took out.new)
-            (table_text (with_count settings.now.header n) rows))) }
+            (table_text (with_count asked.now.settings.now.header n) rows))) }
         ensures unprinted { IfErr result (λ e.
             IsUnprinted (weak_hunt_number e) (S.took out.old) (S.took out.new)) }
-        ensures settings { (e : Refusal) → hunt_fault settings.now ≡ Some e →
+        ensures settings { (e : Refusal) → hunt_fault asked.now.settings.now ≡ Some e →
             result ≡ Err (Hunt e) }
-        ensures errors { hunt_fault settings.now ≡ None → IfErr result (λ e.
-            IsWeakReason settings.now image.now e ⊎
+        ensures errors { hunt_fault asked.now.settings.now ≡ None → IfErr result (λ e.
+            IsWeakReason asked.now.settings.now files.now.image.items e ⊎
             ((e ≡ Hunt (hunting.Run refusals.SinkFailed)) ×
             (S.failures out.old < S.failures out.new))) }
-        ensures image { (cause : ImageCause) → hunt_fault settings.now ≡ None →
-            IsImageCause settings.now image.now cause →
+        ensures image { (cause : ImageCause) → hunt_fault asked.now.settings.now ≡ None →
+            IsImageCause asked.now.settings.now files.now.image.items cause →
             (result ≡ Err (Hunt (hunting.Run (refusals.Image cause)))) ⊎
             (result ≡ Err (Hunt (hunting.Run refusals.OutOfMemory))) }
-        ensures ranges { IfOk result (λ _. has_bad_range settings.now ≡ false) };
+        ensures ranges { IfOk result (λ _. has_bad_range asked.now.settings.now ≡ false) };
 }

@@ -160,9 +160,8 @@ fn search_given<W: FenceSearches + Copy, O: Output, R: Threads + Wait + Sync>(
             Err(refused_for(alloc, &files.image, hunt, fault))
         }
         None => {
-            let (image, input) = (files.image.as_slice(), files.input.as_slice());
             let finds = FenceFinds::new(alloc, asked, progress, world)?;
-            let answer = world.search_fences(threads, alloc, image, input, settings, &finds, out);
+            let answer = world.search_fences(threads, alloc, files, settings, &finds, out);
             progress.end();
             Ok(answer?)
         }

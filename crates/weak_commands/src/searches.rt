@@ -18,6 +18,7 @@ use crate::finds::FenceFinds;
 use fence_finder::{FenceSettings, FoundFences};
 use host_io::Sink;
 use hunt_commands::WeakHunts;
+use program_files::ProgramFiles;
 use std::alloc::Global;
 use std::sync::Wait;
 use std::thread::Threads;
@@ -38,30 +39,33 @@ pub trait FenceSearches: WeakHunts {
         &self,
         rt: &R,
         alloc: Global,
-        image: &[u8],
-        input: &[u8],
+        files: &ProgramFiles,
         settings: FenceSettings,
         finds: &FenceFinds<'_, Self::Progress, Self>,
         out: &mut S,
     ) -> Result<FoundFences, WeakHuntError>
         requires sync { IsSync R.row }
-        ensures finds { IfOk result (λ f. IsSearched settings.hunt image.now input.now f.table ×
-            IsSearchedBy fences.comes_to settings image.now input.now f.table ×
-            fences.finds settings image.now input.now f.table f.executions.items ×
+        ensures finds { IfOk result (λ f. IsSearched settings.hunt files.now.image.items
+            files.now.input.items f.table ×
+            IsSearchedBy fences.comes_to settings files.now.image.items files.now.input.items
+            f.table ×
+            fences.finds settings files.now.image.items files.now.input.items f.table
+            f.executions.items ×
             (S.took out.new ≡ S.took out.old ++ fences_text f.table)) }
         ensures begun { OnErr result ((S.took out.new ≡ S.took out.old) ⊎
-            ((t : Table) × (es : List Saved) × IsSearched settings.hunt image.now input.now t ×
-            IsSearchedBy fences.comes_to settings image.now input.now t ×
-            fences.finds settings image.now input.now t es ×
+            ((t : Table) × (es : List Saved) × IsSearched settings.hunt files.now.image.items
+            files.now.input.items t ×
+            IsSearchedBy fences.comes_to settings files.now.image.items files.now.input.items t ×
+            fences.finds settings files.now.image.items files.now.input.items t es ×
             BeganText (S.took out.old) (S.took out.new) (fences_text t))) }
         ensures settings { (e : Refusal) → hunt_fault settings.hunt ≡ Some e →
             result ≡ Err (Hunt e) }
         ensures errors { hunt_fault settings.hunt ≡ None → IfErr result (λ e.
-            IsWeakReason settings.hunt image.now e ⊎
+            IsWeakReason settings.hunt files.now.image.items e ⊎
             ((e ≡ Hunt (hunting.Run refusals.SinkFailed)) ×
             (S.failures out.old < S.failures out.new))) }
         ensures image { (cause : ImageCause) → hunt_fault settings.hunt ≡ None →
-            IsImageCause settings.hunt image.now cause →
+            IsImageCause settings.hunt files.now.image.items cause →
             (result ≡ Err (Hunt (hunting.Run (refusals.Image cause)))) ⊎
             (result ≡ Err (Hunt (hunting.Run refusals.OutOfMemory))) }
         ensures ranges { IfOk result (λ _. has_bad_range settings.hunt ≡ false) };

@@ -14,11 +14,12 @@ use crate::bounds::bounds_of;
 use crate::confirming::confirm;
 use crate::error::WeakHuntError;
 use crate::guest::Guest;
+use crate::settings::WeakHunt;
 use crate::tabulating::tabulate;
 use guest_rounds::opening_harts;
 use host_io::Sink;
 use hunt_table::write_table;
-use hunter::{HuntSettings, check_hunt, check_ranges};
+use hunter::{check_hunt, check_ranges};
 use laid_image::LaidImage;
 use machine::load;
 use plan_hunt::{HuntObserver, Tally};
@@ -27,8 +28,8 @@ use std::sync::Wait;
 use std::thread::Threads;
 use weak_executions::{Opening, WeakGuest};
 
-/// Makes a guest's executions of the numbers that a hunt names, of so many steps each, until the hunt is over, writes the table of the
-/// endings that they lead to, and answers it. The first execution of each ending was put to the checker of executions.
+/// Makes a guest's executions of the numbers that a hunt names until the hunt is over, writes the table of the endings that they lead to, and
+/// answers it. The first execution of each ending was put to the checker of executions.
 ///
 /// # Errors
 ///
@@ -40,33 +41,33 @@ pub fn hunt_weakly<S: Sink, O: HuntObserver + Sync, R: Threads + Wait + Sync>(
     alloc: Global,
     image: &[u8],
     input: &[u8],
-    settings: &HuntSettings,
-    steps: u32,
+    asked: &WeakHunt<'_>,
     observer: &O,
     out: &mut S,
 ) -> Result<Tally, WeakHuntError>
-    requires weak { settings.now.header.is_weak ≡ true }
+    requires weak { asked.now.settings.now.header.is_weak ≡ true }
     // It is the table of endings each of which RVWMO allows, and the sink takes its text.
     ensures writes { WritesAnswer S.took S.failures
-        (IsWeakHuntText settings.now image.now input.now)
-        (IsFaultOr (option_map Hunt (hunt_fault settings.now))
-        (IsWeakReason settings.now image.now))
+        (IsWeakHuntText asked.now.settings.now image.now input.now)
+        (IsFaultOr (option_map Hunt (hunt_fault asked.now.settings.now))
+        (IsWeakReason asked.now.settings.now image.now))
         (Hunt (hunting.Run refusals.OutOfMemory)) (Hunt (hunting.Run refusals.SinkFailed)) out.old
         out.new result }
     // Where memory is refused, it took nothing.
     ensures memory { result ≡ Err (Hunt (hunting.Run refusals.OutOfMemory)) →
         S.took out.new ≡ S.took out.old }
     // Settings out of range are refused first, and then an image.
-    ensures settings { (e : Refusal) → hunt_fault settings.now ≡ Some e → result ≡ Err (Hunt e) }
-    ensures image { (cause : ImageCause) → hunt_fault settings.now ≡ None →
-        IsImageCause settings.now image.now cause →
+    ensures settings { (e : Refusal) → hunt_fault asked.now.settings.now ≡ Some e →
+        result ≡ Err (Hunt e) }
+    ensures image { (cause : ImageCause) → hunt_fault asked.now.settings.now ≡ None →
+        IsImageCause asked.now.settings.now image.now cause →
         (result ≡ Err (Hunt (hunting.Run (refusals.Image cause)))) ⊎
         (result ≡ Err (Hunt (hunting.Run refusals.OutOfMemory))) }
     // No hunt looks at a range that is empty, or not all in memory.
-    ensures ranges { IfOk result (λ _. has_bad_range settings.now ≡ false) }
+    ensures ranges { IfOk result (λ _. has_bad_range asked.now.settings.now ≡ false) }
 {
-    let tally = tabulate_weakly(rt, alloc, image, input, settings, steps, observer)?;
-    write_table(alloc, &settings.header, tally.done, &tally.rows, out)?;
+    let tally = tabulate_weakly(rt, alloc, image, input, asked, observer)?;
+    write_table(alloc, &asked.settings.header, tally.done, &tally.rows, out)?;
     Ok(tally)
 }
 
@@ -76,21 +77,22 @@ fn tabulate_weakly<O: HuntObserver + Sync, R: Threads + Wait + Sync>(
     alloc: Global,
     image: &[u8],
     input: &[u8],
-    settings: &HuntSettings,
-    steps: u32,
+    asked: &WeakHunt<'_>,
     observer: &O,
 ) -> Result<Tally, WeakHuntError>
     ensures table { IfOk result (λ t.
-        IsWeaklyHunted settings.now image.now input.now t.done t.rows.items) }
-    ensures settings { (e : Refusal) → hunt_fault settings.now ≡ Some e → result ≡ Err (Hunt e) }
-    ensures errors { hunt_fault settings.now ≡ None →
-        IfErr result (λ e. IsWeakReason settings.now image.now e) }
-    ensures image { (cause : ImageCause) → hunt_fault settings.now ≡ None →
-        IsImageCause settings.now image.now cause →
+        IsWeaklyHunted asked.now.settings.now image.now input.now t.done t.rows.items) }
+    ensures settings { (e : Refusal) → hunt_fault asked.now.settings.now ≡ Some e →
+        result ≡ Err (Hunt e) }
+    ensures errors { hunt_fault asked.now.settings.now ≡ None →
+        IfErr result (λ e. IsWeakReason asked.now.settings.now image.now e) }
+    ensures image { (cause : ImageCause) → hunt_fault asked.now.settings.now ≡ None →
+        IsImageCause asked.now.settings.now image.now cause →
         (result ≡ Err (Hunt (hunting.Run (refusals.Image cause)))) ⊎
         (result ≡ Err (Hunt (hunting.Run refusals.OutOfMemory))) }
-    ensures ranges { IfOk result (λ _. has_bad_range settings.now ≡ false) }
+    ensures ranges { IfOk result (λ _. has_bad_range asked.now.settings.now ≡ false) }
 {
+    let settings = asked.settings;
     check_hunt(settings)?;
     let image = load(alloc, settings.format, image, settings.pages)?;
     check_ranges(settings)?;
@@ -101,7 +103,7 @@ fn tabulate_weakly<O: HuntObserver + Sync, R: Threads + Wait + Sync>(
         input,
         harts: &harts,
     };
-    let tally = table_of(rt, alloc, opening, settings, steps, observer)?;
+    let tally = table_of(rt, alloc, opening, asked, observer)?;
     Ok(tally)
 }
 
@@ -110,16 +112,16 @@ fn table_of<O: HuntObserver + Sync, R: Threads + Wait + Sync>(
     rt: &R,
     alloc: Global,
     opening: Opening<'_>,
-    settings: &HuntSettings,
-    steps: u32,
+    asked: &WeakHunt<'_>,
     observer: &O,
 ) -> Result<Tally, WeakHuntError>
-    requires hunt { IsHunt settings.now }
-    requires harts { length opening.harts.now ≡ settings.now.harts }
+    requires hunt { IsHunt asked.now.settings.now }
+    requires harts { length opening.harts.now ≡ asked.now.settings.now.harts }
     ensures table { IfOk result (λ t. IsTabled opening.entry.image.now opening.entry.input.now
-        opening.entry.harts.now (extent_of settings.now) t.done t.rows.items) }
+        opening.entry.harts.now (extent_of asked.now.settings.now) t.done t.rows.items) }
     ensures errors { (s : AskedFor) (file : List ℕ) → IfErr result (λ e. IsWeakReason s file e) }
 {
+    let WeakHunt { settings, steps } = *asked;
     let header = &settings.header;
     let guest = Guest {
         alloc,

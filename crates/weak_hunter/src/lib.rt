@@ -9,10 +9,12 @@ mod executing;
 mod guest;
 mod hunting;
 mod looking;
+mod settings;
 mod tabulating;
 mod writing;
 
 pub use error::WeakHuntError;
 pub use hunting::hunt_weakly;
 pub use looking::seen_of;
+pub use settings::WeakHunt;
 pub use writing::weak_execution;

@@ -57,9 +57,9 @@ returns-in_err-answer-in-None-clause-begun g c =
           is_accepted = c.in_ok-accepted.ensures.found;
           keeps = c.is_some.ensures;
         };
-        searched = rw (c.as_slice-image.ensures.value, c.as_slice-input.ensures.value) at t.2;
-        told = rw (c.as_slice-image.ensures.value, c.as_slice-input.ensures.value) at t.3;
-        found = rw (c.as_slice-image.ensures.value, c.as_slice-input.ensures.value) at t.4;
+        searched = t.2;
+        told = t.3;
+        found = t.4;
       },
       t.5,
     )) c.in_err-answer-in-None.ensures.begun)
@@ -82,8 +82,8 @@ returns-in_err-answer-in-None-clause-errors g c =
       settings = s;
       numbers = numbers;
       refused = told_so asked.search true (hunt_fault s) s image _ e good c.in_err-answer-in-None.ensures.settings
-          (λ none. refusal_so s image _ _ e (λ more. inl more) (rw c.as_slice-image.ensures.value at (c.in_err-answer-in-None.ensures.errors none)))
-          (rw c.as_slice-image.ensures.value at c.in_err-answer-in-None.ensures.image);
+          (λ none. refusal_so s image _ _ e (λ more. inl more) (c.in_err-answer-in-None.ensures.errors none))
+          c.in_err-answer-in-None.ensures.image;
     })))
 
 pub returns-clause-searches : goal.returns-clause-searches
@@ -112,9 +112,9 @@ returns-clause-searches g c =
           is_accepted = c.in_ok-accepted.ensures.found;
           keeps = c.is_some.ensures;
         };
-        searched = rw (c.as_slice-image.ensures.value, c.as_slice-input.ensures.value) at h.0;
-        told = rw (c.as_slice-image.ensures.value, c.as_slice-input.ensures.value) at h.1;
-        found = rw (c.as_slice-image.ensures.value, c.as_slice-input.ensures.value) at h.2;
+        searched = h.0;
+        told = h.1;
+        found = h.2;
       },
       h.3,
       refl,

@@ -12,7 +12,7 @@ use Rattle.weak_hunter.proofs.hunting.hunt_weakly.Goals as goal
 
 pub returns-in_err-tally-clause-writes : goal.returns-in_err-tally-clause-writes
 returns-in_err-tally-clause-writes g c =
-    let s = c.args.settings.now in
+    let s = c.args.asked.now.settings.now in
     let p = err_from_is_err_and c.from_residual.result c.from_residual.ensures.1 in
     rw (p.1, p.2)
     (refused_first _ (fault_in (hunt_fault s) Hunt (IsWeakReason s c.args.image.now) _ c.in_err-tally.ensures.settings c.in_err-tally.ensures.errors) refl)
@@ -21,11 +21,11 @@ pub returns-in_err-write_table-clause-writes : goal.returns-in_err-write_table-c
 returns-in_err-write_table-clause-writes g c =
     let p = err_from_is_err_and c.from_residual-in_err-write_table.result c.from_residual-in_err-write_table.ensures.1 in
     let w = c.in_err-write_table.ensures.writes in
-    let same = ap (λ (rows : List Row). table_text (with_count c.args.settings.now.header c.in_ok-tally.tally.done) rows) c.deref.ensures.value in
+    let same = ap (λ (rows : List Row). table_text (with_count c.args.asked.now.settings.now.header c.in_ok-tally.tally.done) rows) c.deref.ensures.value in
     rw (p.1, p.2)
     (cut_off _ c.in_ok-tally.tally _ (by_writing_as (λ (e : RunError). Hunt (Run e)) _ _ _ _ _ _ w) (record { table = c.in_ok-tally.ensures.table; is_text = same }) w.begun)
 
 pub returns-clause-writes : goal.returns-clause-writes
 returns-clause-writes g c =
-    let same = ap (λ (rows : List Row). table_text (with_count c.args.settings.now.header c.in_ok-tally.tally.done) rows) c.deref.ensures.value in
+    let same = ap (λ (rows : List Row). table_text (with_count c.args.asked.now.settings.now.header c.in_ok-tally.tally.done) rows) c.deref.ensures.value in
     answered _ _ (record { table = c.in_ok-tally.ensures.table; is_text = same }) c.in_ok-write_table.ensures.writes.ok

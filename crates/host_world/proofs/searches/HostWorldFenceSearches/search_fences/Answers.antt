@@ -19,8 +19,8 @@ returns-clause-begun g c =
       b.is_text.told,
       tt,
       subst (λ (t : List ℕ). BeganText old new t) b.is_text.is_text b.began,
-    )) h) (begun _ c.find_fences.ensures.writes)
+    )) h) (begun _ (rw (c.deref.ensures.value, c.deref-2.ensures.value) at c.find_fences.ensures.writes))
 
 pub returns-clause-errors : goal.returns-clause-errors
-returns-clause-errors g c = λ none. why_cut (option_map Hunt (hunt_fault c.args.settings.hunt)) (IsWeakReason c.args.settings.hunt c.args.image.now) c.find_fences.result
-    c.find_fences.ensures.writes (inl refl) (ap (option_map Hunt) none)
+returns-clause-errors g c = λ none. why_cut (option_map Hunt (hunt_fault c.args.settings.hunt)) (IsWeakReason c.args.settings.hunt c.args.files.now.image.items) c.find_fences.result
+    (rw (c.deref.ensures.value, c.deref-2.ensures.value) at c.find_fences.ensures.writes) (inl refl) (ap (option_map Hunt) none)

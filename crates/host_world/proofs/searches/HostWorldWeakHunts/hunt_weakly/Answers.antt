@@ -11,8 +11,8 @@ use Rattle.host_world.proofs.searches.HostWorldWeakHunts.hunt_weakly.Goals as go
 
 pub returns-clause-unprinted : goal.returns-clause-unprinted
 returns-clause-unprinted g c =
-    unprinted weak_hunt_number (Hunt (hunting.Run refusals.OutOfMemory)) (Hunt (hunting.Run refusals.SinkFailed)) c.hunt_weakly.result refl refl c.hunt_weakly.ensures.writes
+    unprinted weak_hunt_number (Hunt (hunting.Run refusals.OutOfMemory)) (Hunt (hunting.Run refusals.SinkFailed)) c.hunt_weakly.result refl refl (rw (c.deref.ensures.value, c.deref-2.ensures.value) at c.hunt_weakly.ensures.writes)
 
 pub returns-clause-errors : goal.returns-clause-errors
-returns-clause-errors g c = λ none. why_cut (option_map Hunt (hunt_fault c.args.settings.now)) (IsWeakReason c.args.settings.now c.args.image.now) c.hunt_weakly.result
-    c.hunt_weakly.ensures.writes (inl refl) (ap (option_map Hunt) none)
+returns-clause-errors g c = λ none. why_cut (option_map Hunt (hunt_fault c.args.asked.now.settings.now)) (IsWeakReason c.args.asked.now.settings.now c.args.files.now.image.items) c.hunt_weakly.result
+    (rw (c.deref.ensures.value, c.deref-2.ensures.value) at c.hunt_weakly.ensures.writes) (inl refl) (ap (option_map Hunt) none)
