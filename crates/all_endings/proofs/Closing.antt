@@ -9,9 +9,17 @@ use Rattle.std.proofs.lemmas.List.Sums.{count_by_more_no, count_by_more_yes}
 use Rattle.pages.specs.Memory.{Memory}
 use Rattle.round_schedule.specs.declared.event.Event.{Event}
 use Rattle.round_schedule.specs.Positions.{event, no_event}
+use Rattle.round_schedule.specs.declared.access.Access.{Access}
 use Rattle.hart_step.specs.declared.hart.Hart.{Hart}
 use Rattle.hart_step.specs.Console.{ConsoleState, output_room}
-use Rattle.memory_order.specs.Operations.{covers, is_operation, is_store}
+use Rattle.memory_order.specs.CheckingProgram.{orders_stores}
+use Rattle.memory_order.specs.Dependencies.{registers_at}
+use Rattle.memory_order.specs.Operations.{covers, is_acquire, is_operation, is_store}
+use Rattle.memory_order.specs.declared.registers.Registers.{Registers}
+use Rattle.rule_checker.specs.CarriedBounds.{carried_after, sources_bound}
+use Rattle.rule_checker.specs.Kinds.{kinds_after, loads_stores}
+use Rattle.rule_checker.specs.declared.annotated.KindBounds.{KindBounds}
+use Rattle.rule_checker.specs.declared.carried.Carried.{Carried}
 use Rattle.memory_order.specs.Orders.{order_position}
 use Rattle.memory_order.proofs.Facts.{store_is_operation, within}
 use Rattle.execution.specs.Executions.{Executes, Standing, begins, goes, stops}
@@ -23,10 +31,10 @@ use Rattle.all_endings.specs.HartRuns.{Runs}
 use Rattle.all_endings.specs.Offering.{AreShort, ClosedListsHaveAll, AreFresh, IsClosed, IsOffered, MayPay, Pays}
 use Rattle.all_endings.specs.RunStates.{Move, RunState, run_start}
 use Rattle.all_endings.specs.StoreLists.{Stored, all_stores, has_byte, no_store, stores_of, told}
-use Rattle.all_endings.specs.Times.{stores_before, time_of, touched_before}
+use Rattle.all_endings.specs.Times.{kinds_before, stores_before, time_of, touched_before}
 use Rattle.all_endings.proofs.DecodedRegisters.{all_registers_are}
 use Rattle.all_endings.proofs.Factors.{SoFar, all_along, harts_stay, the}
-use Rattle.all_endings.proofs.Following.{Setting, after, list, time}
+use Rattle.all_endings.proofs.Following.{Setting, after, carried_at_index, list, time}
 use Rattle.all_endings.proofs.Sources.{once_at, place_of_time}
 use Rattle.all_endings.proofs.StoreLists.{stands_at}
 use Rattle.all_endings.proofs.Times.{stand_in_time}
@@ -212,23 +220,47 @@ hart_in (x ∷ hs) (suc h) l = hart_in hs h (omega (arith, l))
 
 -- ---- stores that are still to be done
 
-touched_more : (s : Setting) (h x i j : ℕ) → i ≤ j → touched_before (after s) s.t h x i ≤ touched_before (after s) s.t h x j
-touched_more s h x i zero l = let e : i ≡ 0 = omega (arith, l) in omega (arith, ap (touched_before (after s) s.t h x) e)
-touched_more s h x i (suc j) l = elim (cases_lt j i) [
-  | inl k ↦ let e : i ≡ suc j = omega (arith, k, l) in omega (arith, ap (touched_before (after s) s.t h x) e)
-  | inr k ↦ let r = touched_more s h x i j k in
-      let g = raised (h == (event s.t j).hart && (is_operation (event s.t j) && covers (event s.t j).access x)) (touched_before (after s) s.t h x j) (after s j) in
-      omega (arith, r, g)
+raised : (c : Bool) (u w : ℕ) → u ≤ (if c then max u w else u)
+raised true u w = omega arith
+raised false u w = omega arith
+
+-- what rules 4, 5, 11 and 13 ask of each store that comes
+abbrev stores_by : KindBounds → Carried → ℕ
+stores_by k c = max (max k.acquires (max k.load_store k.store_store)) (max c.steered c.addressed)
+
+abbrev stores_at : Setting → ℕ → ℕ → ℕ
+stores_at s h i = stores_by (kinds_before (after s) s.t h i) (carried_at_index s h i)
+
+stores_by_more : (own : Bool) (k : KindBounds) (c : Carried) (a : Access) (operation : Bool) (x : Registers) (e : Event) (next : ℕ) →
+    stores_by k c ≤ stores_by (if own then kinds_after k a operation next else k) (if own then carried_after c x e next else c)
+stores_by_more true k c a operation x e next =
+    let p = raised (operation && is_acquire a) k.acquires next in
+    let q = raised (loads_stores a) k.load_store k.loads in
+    let r = raised (orders_stores a) k.store_store k.stores in
+    let u = raised x.steers c.steered (sources_bound c x) in
+    omega (arith, p, q, r, u)
+stores_by_more false k c a operation x e next = omega arith
+
+-- bounds grow along a trace
+grows_on : (f : ℕ → ℕ) → ((i : ℕ) → f i ≤ f (suc i)) → (i j : ℕ) → i ≤ j → f i ≤ f j
+grows_on f each i zero l = let e : i ≡ 0 = omega (arith, l) in omega (arith, ap f e)
+grows_on f each i (suc j) l = elim (cases_lt j i) [
+  | inl k ↦ let e : i ≡ suc j = omega (arith, k, l) in omega (arith, ap f e)
+  | inr k ↦ let r = grows_on f each i j k in let g = each j in omega (arith, r, g)
 ]
-  where
-    raised : (c : Bool) (u w : ℕ) → u ≤ (if c then max u w else u)
-    raised true u w = omega arith
-    raised false u w = omega arith
+
+touched_more : (s : Setting) (h x i j : ℕ) → i ≤ j → touched_before (after s) s.t h x i ≤ touched_before (after s) s.t h x j
+touched_more s h x = grows_on (touched_before (after s) s.t h x)
+    (λ j. raised (h == (event s.t j).hart && (is_operation (event s.t j) && covers (event s.t j).access x)) (touched_before (after s) s.t h x j) (after s j))
+
+stores_more : (s : Setting) (h i j : ℕ) → i ≤ j → stores_at s h i ≤ stores_at s h j
+stores_more s h = grows_on (stores_at s h)
+    (λ j. stores_by_more (h == (event s.t j).hart) (kinds_before (after s) s.t h j) (carried_at_index s h j) (event s.t j).access (is_operation (event s.t j)) (registers_at s.is j) (event s.t j) (after s j))
 
 -- what was done up to an index leaves what its hart does from there on
 pub may_pay : (s : Setting) (h i : ℕ) (start : Hart) (moves : List Move) (state : RunState) → SoFar s h start i moves state →
-    ((x : ℕ) → state.touched x ≡ touched_before (after s) s.t h x i) → MayPay h (list s) moves state
-may_pay s h i start moves state so_far touched p l here =
+    state.kinds ≡ kinds_before (after s) s.t h i → state.carried ≡ carried_at_index s h i → ((x : ℕ) → state.touched x ≡ touched_before (after s) s.t h x i) → MayPay h (list s) moves state
+may_pay s h i start moves state so_far kinds carried touched p l here =
     let m = s.many in
     let total = length-take s.n (all_stores s.t s.g) in
     let f = store_at s.t s.g p s.meets.lists.once (omega (arith, m, l, total)) in
@@ -239,12 +271,25 @@ may_pay s h i start moves state so_far touched p l here =
     elim (cases_lt f.index i) [
       | inl earlier ↦ let paid = so_far.paid f.index earlier h_is f.stores (omega (arith, t_is, m, l)) in inl (paid.0, paid.1, paid.2, paid.3 ∙ t_is)
       | inr later ↦ inr (λ x wet.
+          let stands = stand_in_time s.is s.t (opening_bytes s.image) s.g s.fit s.meets s.n f.index (store_is_operation (event s.t f.index) f.stores) in
           let t = touched x in
           let g = touched_more s h x i f.index later in
           let q : touched_before (after s) s.t (event s.t f.index).hart x f.index ≡ touched_before (after s) s.t h x f.index = ap (λ (y : ℕ). touched_before (after s) s.t y x f.index) h_is in
-          let stands = stand_in_time s.is s.t (opening_bytes s.image) s.g s.fit s.meets s.n f.index (store_is_operation (event s.t f.index) f.stores) in
           let b = stands.touched x f.stores (ap (λ (y : Stored). has_byte y x) (sym is) ∙ wet) in
-          omega (arith, t, g, q, b, t_is))
+          let u : stores_by state.kinds state.carried ≡ stores_at s h i = ap (λ (y : KindBounds). stores_by y state.carried) kinds ∙ ap (stores_by (kinds_before (after s) s.t h i)) carried in
+          let v = stores_more s h i f.index later in
+          let w : stores_at s (event s.t f.index).hart f.index ≡ stores_at s h f.index = ap (λ (y : ℕ). stores_at s y f.index) h_is in
+          let k = stands.kinds.2 f.stores in
+          let c = stands.carried.1 f.stores in
+          let a = stands.kinds.0 in
+          let k0 = k.0 in
+          let k1 = k.1 in
+          let c1 = c.1 in
+          let c2 = c.2 in
+          let touches : state.touched x ≤ p = omega (arith, t, g, q, b, t_is) in
+          let binds : stores_at s (event s.t f.index).hart f.index ≤ p = omega (arith, a, k0, k1, c1, c2, t_is) in
+          let bound : stores_by state.kinds state.carried ≤ p = omega (arith, u, v, w, binds) in
+          omega (arith, touches, bound))
     ]
 
 -- ---- the next store
@@ -293,7 +338,7 @@ module _ (s : Setting) (k h i : ℕ) (start : Hart) (moves : List Move) (state :
       }
 
 -- the stores of each length, one after another
-module _ (k : ℕ) (image : Memory) (hs : List Hart) (c : ConsoleState) (is_node : List Stored → Bool) (sized : AreFresh hs) (enough : length c.output + k * length hs ≤ output_room) (closed : IsClosed k image hs is_node)
+module _ (k : ℕ) (image : Memory) (hs : List Hart) (c : ConsoleState) (IsNode : List Stored → Type 0) (sized : AreFresh hs) (enough : length c.output + k * length hs ≤ output_room) (closed : IsClosed k image hs IsNode)
     (q : Standing) (g : List ℕ) (e : Executes image (at_start hs c) q) (meets : Allows (opening_bytes image) q g) (short : AreShort k q) where
   pub has_room : HasRoom c q
   has_room =
@@ -302,8 +347,8 @@ module _ (k : ℕ) (image : Memory) (hs : List Hart) (c : ConsoleState) (is_node
       let same : k * length q.harts ≡ k * length hs = ap (λ (m : ℕ). k * m) stay in
       omega (arith, few, same, enough)
 
-  next_node : (n h w : ℕ) (start : Hart) → length (stores_of n q.events g) ≡ n → is_node (stores_of n q.events g) ≡ true → h < length hs → start ≡ get_or hs h start →
-      (event q.events w).hart ≡ h → is_store (event q.events w) ≡ true → time_of n q.events g w ≡ n → is_node (stores_of n q.events g ++ told (event q.events w) ∷ []) ≡ true
+  next_node : (n h w : ℕ) (start : Hart) → length (stores_of n q.events g) ≡ n → IsNode (stores_of n q.events g) → h < length hs → start ≡ get_or hs h start →
+      (event q.events w).hart ≡ h → is_store (event q.events w) ≡ true → time_of n q.events g w ≡ n → IsNode (stores_of n q.events g ++ told (event q.events w) ∷ [])
   next_node n h w start many node small at here store now =
       closed.grows (stores_of n q.events g) h start (told (event q.events w)) node small at
       (elim (all_along image hs c q g e meets has_room n h start many small at (sized h start small at)) [
@@ -314,14 +359,14 @@ module _ (k : ℕ) (image : Memory) (hs : List Hart) (c : ConsoleState) (is_node
           | inl unknown ↦
               is_offered the_setting k h stuck.index start stuck.moves stuck.state stuck.runs (moves_few k n h q g stuck.index stuck.moves short stuck.within stuck.are) stuck.so_far unknown.1 w here store now
           | inr call ↦ absurd (closed.calls (stores_of n q.events g) h start node small at stuck.moves stuck.state (moves_few k n h q g stuck.index stuck.moves short stuck.within stuck.are) stuck.runs
-              (may_pay the_setting h stuck.index start stuck.moves stuck.state stuck.so_far stuck.touched) call)
+              (may_pay the_setting h stuck.index start stuck.moves stuck.state stuck.so_far stuck.kinds stuck.carried stuck.touched) call)
         ]
       ])
     where
       the_setting : Setting
       the_setting = the image q g n (all_registers_are image hs c q e) meets many h start (length c.output) has_room
 
-  pub nodes_all : (n : ℕ) → n ≤ length (all_stores q.events g) → is_node (stores_of n q.events g) ≡ true
+  pub nodes_all : (n : ℕ) → n ≤ length (all_stores q.events g) → IsNode (stores_of n q.events g)
   nodes_all zero l = closed.begins
   nodes_all (suc n) l =
       let many : length (stores_of n q.events g) ≡ n = let t = length-take n (all_stores q.events g) in omega (arith, t, l) in
@@ -333,8 +378,8 @@ module _ (k : ℕ) (image : Memory) (hs : List Hart) (c : ConsoleState) (is_node
       let pos = f.position in
       let now : time_of n q.events g f.index ≡ n = omega (arith, pos) in
       let grown = next_node n (event q.events f.index).hart f.index start.0 many (nodes_all n (omega (arith, l))) (omega (arith, small, stay)) start.1 refl f.stores now in
-      subst (λ (m : List Stored). is_node m ≡ true) (sym (take-suc (all_stores q.events g) n no_store (omega (arith, l)) ∙ ap (λ (y : Stored). stores_of n q.events g ++ y ∷ []) f.told)) grown
+      subst IsNode (sym (take-suc (all_stores q.events g) n no_store (omega (arith, l)) ∙ ap (λ (y : Stored). stores_of n q.events g ++ y ∷ []) f.told)) grown
 
 pub closed_have_all : ClosedListsHaveAll
 closed_have_all k image hs c is_node sized enough closed q g e meets short n many =
-    nodes_all k image hs c is_node sized enough closed q g e meets short n (let t = length-take n (all_stores q.events g) in omega (arith, t, many))
+    nodes_all k image hs c (λ (m : List Stored). is_node m ≡ true) sized enough closed q g e meets short n (let t = length-take n (all_stores q.events g) in omega (arith, t, many))

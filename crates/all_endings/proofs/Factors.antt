@@ -2,7 +2,7 @@
 use Rattle.std.proofs.Common.{◌≡◌, ◌≢◌, ℕ, zero, suc, ◌<◌, ◌≤◌, ◌==◌, ◌⊎◌, Bool, true, false, if◌then◌else◌, List, [], ◌∷◌, ◌++◌, length, map, get_or, slice_index_or, slice_set, length-set, Option, Some, None, is_some, unwrap_or, refl, sym, ap, ◌∙◌, subst, inl, inr, arith, Contains, drop, nat_lt, ◌%◌, ◌^◌, ◌+◌}
 use Rattle.std.proofs.lemmas.Bool.Decides.{nat_tests}
 use Rattle.all_endings.proofs.Times.{carried_below, timed_rises}
-use Rattle.all_endings.specs.Times.{carried_before, timed, touched_before}
+use Rattle.all_endings.specs.Times.{carried_before, kinds_before, timed, touched_before}
 use Rattle.all_endings.specs.Halting.{Halts, KnowsRegisters}
 use Rattle.execution.proofs.Answering.{stopped_console}
 use Rattle.rule_checker.specs.declared.carried.Carried.{Carried}
@@ -105,6 +105,8 @@ pub record Stuck (s : Setting) (q : Standing) (h : ℕ) (start : Hart) : Type 0 
   pub are : AreMoves s.n h q s.g index moves
   pub so_far : SoFar s h start index moves state
   pub known : Total s → KnowsRegisters state
+  pub kinds : state.kinds ≡ kinds_before (after s) s.t h index
+  pub carried : state.carried ≡ carried_at_index s h index
   pub touched : (x : ℕ) → state.touched x ≡ touched_before (after s) s.t h x index
   pub breaks : (IsUnknown s.image state × StoresLater s.n h q s.g index) ⊎ IsOpenCall s.image state
 
@@ -339,7 +341,7 @@ module _ (image : Memory) (q : Standing) (g : List ℕ) (n : ℕ) (fit : (i : �
           ∙ sym (map-append (λ n. Some n) out (put_in instr k.x));
       halting = inl running;
     })
-    | inr b ↦ inl (record { index = i; within = small; moves = w.moves; state = w.state; runs = w.runs; are = w.are; so_far = w.so_far; known = knows_all the h i held w.state k w.follows; touched = w.follows.touched; breaks = blocked b })
+    | inr b ↦ inl (record { index = i; within = small; moves = w.moves; state = w.state; runs = w.runs; are = w.are; so_far = w.so_far; known = knows_all the h i held w.state k w.follows; kinds = w.follows.kinds; carried = w.follows.carried; touched = w.follows.touched; breaks = blocked b })
   ]
     where
       at : decoded image w.state.pc ≡ Some instr

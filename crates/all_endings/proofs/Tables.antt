@@ -15,14 +15,14 @@ use Rattle.memory_order.proofs.Facts.{store_is_operation, within}
 use Rattle.execution.specs.Executions.{Executes, Standing}
 use Rattle.execution.specs.Progressing.{at_start}
 use Rattle.execution_checker.specs.Allowed.{Allows}
-use Rattle.all_endings.specs.Endings.{IsEnded, bytes_from, memory_after, opening_bytes, own_output, own_outputs}
+use Rattle.all_endings.specs.Endings.{AllEndingsWithin, Ending, IsEnded, bytes_from, memory_after, opening_bytes, own_output, own_outputs}
 use Rattle.all_endings.specs.Factorizing.{IsUnknown, unknown-address, unknown-target, HasRoom}
 use Rattle.all_endings.specs.Halting.{Halts, KnowsRegisters}
 use Rattle.all_endings.specs.Locality.{view}
 use Rattle.all_endings.specs.Offering.{AreFresh, AreShort, IsClosed}
 use Rattle.all_endings.specs.RunStates.{RunState}
 use Rattle.all_endings.specs.StoreLists.{Stored, all_stores, stores_of}
-use Rattle.all_endings.specs.Tables.{ClosedTablesAreWhole, HartEnds, HartsEnd, memory_of}
+use Rattle.all_endings.specs.Tables.{ClosedTablesAreWhole, HartEnds, HartsEnd, HasEndings, memory_of}
 use Rattle.all_endings.specs.Times.{stores_before, timed, touched_before}
 use Rattle.all_endings.proofs.Closing.{has_room, may_pay, moves_few, nodes_all, pays_all, stores_counted}
 use Rattle.all_endings.proofs.DecodedRegisters.{all_registers_are, decoded_fits}
@@ -96,8 +96,8 @@ ranges_same f g same (r ∷ see) =
 
 -- ---- an execution that ended
 
-module _ (k : ℕ) (image : Memory) (hs : List Hart) (c : ConsoleState) (is_node : List Stored → Bool) (fresh : AreFresh hs) (enough : length c.output + k * length hs ≤ output_room)
-    (closed : IsClosed k image hs is_node) (q : Standing) (g : List ℕ) (e : Executes image (at_start hs c) q) (meets : Allows (opening_bytes image) q g) (short : AreShort k q)
+module _ (k : ℕ) (image : Memory) (hs : List Hart) (c : ConsoleState) (IsNode : List Stored → Type 0) (fresh : AreFresh hs) (enough : length c.output + k * length hs ≤ output_room)
+    (closed : IsClosed k image hs IsNode) (q : Standing) (g : List ℕ) (e : Executes image (at_start hs c) q) (meets : Allows (opening_bytes image) q g) (short : AreShort k q)
     (ended : IsEnded q) where
   abbrev n : ℕ
   n = length (all_stores q.events g)
@@ -108,11 +108,11 @@ module _ (k : ℕ) (image : Memory) (hs : List Hart) (c : ConsoleState) (is_node
   many : length (stores_of n q.events g) ≡ n
   many = let t = length-take n (all_stores q.events g) in omega (arith, t)
 
-  node : is_node (stores_of n q.events g) ≡ true
-  node = nodes_all k image hs c is_node fresh enough closed q g e meets short n (omega arith)
+  node : IsNode (stores_of n q.events g)
+  node = nodes_all k image hs c IsNode fresh enough closed q g e meets short n (omega arith)
 
   room : HasRoom c q
-  room = has_room k image hs c is_node fresh enough closed q g e meets short
+  room = has_room k image hs c IsNode fresh enough closed q g e meets short
 
   stay : length q.harts ≡ length hs
   stay = harts_stay image (at_start hs c) q e
@@ -148,7 +148,7 @@ module _ (k : ℕ) (image : Memory) (hs : List Hart) (c : ConsoleState) (is_node
       | inl stuck ↦ absurd (elim stuck.breaks [
         | inl unknown ↦ known_knows image stuck.state (stuck.known total) unknown.0
         | inr call ↦ closed.calls (stores_of n q.events g) h start node small at stuck.moves stuck.state (moves_few k n h q g stuck.index stuck.moves short stuck.within stuck.are) stuck.runs
-            (may_pay s h stuck.index start stuck.moves stuck.state stuck.so_far stuck.touched) call
+            (may_pay s h stuck.index start stuck.moves stuck.state stuck.so_far stuck.kinds stuck.carried stuck.touched) call
       ])
       | inr w ↦
           let few = moves_few k n h q g (length q.events) w.moves short (omega arith) w.are in
@@ -175,10 +175,14 @@ module _ (k : ℕ) (image : Memory) (hs : List Hart) (c : ConsoleState) (is_node
     each = λ h start small at. hart_ends h start small at;
   }
 
-pub tables_whole : ClosedTablesAreWhole
-tables_whole k image hs c see is_node table fresh enough closed has q g e meets ended short =
+pub nodes_whole : (k : ℕ) (image : Memory) (hs : List Hart) (c : ConsoleState) (see : List Range) (IsNode : List Stored → Type 0) (table : List Ending) → AreFresh hs → length c.output + k * length hs ≤ output_room →
+    IsClosed k image hs IsNode → HasEndings k image hs see IsNode table → AllEndingsWithin k image hs c see table
+nodes_whole k image hs c see IsNode table fresh enough closed has q g e meets ended short =
     subst (λ (bs : List (List ℕ)). Contains table (record { stops = map (λ (y : Hart). y.stop) q.harts; outputs = own_outputs image (at_start hs c) q e 0 (length q.harts); seen = bs }))
     (ranges_same (memory_of (stores_of (length (all_stores q.events g)) q.events g) (opening_bytes image)) (memory_after q.events g (opening_bytes image))
     (λ y. ap (λ (us : List Stored). memory_of us (opening_bytes image) y) (take_all (length (all_stores q.events g)) (all_stores q.events g) (omega arith)) ∙ sym (memories_same q.events g (opening_bytes image) y)) see)
     (has (stores_of (length (all_stores q.events g)) q.events g) (map (λ (y : Hart). y.stop) q.harts) (own_outputs image (at_start hs c) q e 0 (length q.harts))
-    (node k image hs c is_node fresh enough closed q g e meets short ended) (harts_end k image hs c is_node fresh enough closed q g e meets short ended))
+    (node k image hs c IsNode fresh enough closed q g e meets short ended) (harts_end k image hs c IsNode fresh enough closed q g e meets short ended))
+
+pub tables_whole : ClosedTablesAreWhole
+tables_whole k image hs c see is_node table fresh enough closed has = nodes_whole k image hs c see (λ (m : List Stored). is_node m ≡ true) table fresh enough closed has

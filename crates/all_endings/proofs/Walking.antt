@@ -1,9 +1,9 @@
 -- Places that are walked cover the runs.
-use Rattle.std.proofs.Common.{◌≡◌, ℕ, ◌+◌, ◌<◌, ◌≤◌, ◌==◌, ◌&&◌, ◌||◌, ◌⊎◌, zero, suc, Bool, true, false, List, [], ◌∷◌, ◌++◌, length, map, get_or, Contains, Option, Some, None, refl, sym, ap, ◌∙◌, subst, inl, inr, arith, is_some}
+use Rattle.std.proofs.Common.{◌≡◌, ℕ, ◌+◌, ◌<◌, ◌≤◌, ◌==◌, ◌&&◌, ◌⊎◌, zero, suc, true, List, [], ◌∷◌, ◌++◌, length, map, get_or, Contains, Option, Some, None, refl, sym, ap, ◌∙◌, subst, inl, inr, arith, is_some}
 use Rattle.all_endings.proofs.Closing.{hart_in}
 use Rattle.all_endings.proofs.Sources.{both}
 use Rattle.std.proofs.Math.Seq.{get_or-append_seam}
-use Rattle.std.proofs.lemmas.Bool.{and_parts, cases_lt, eq-eqb, eqb-true}
+use Rattle.std.proofs.lemmas.Bool.{cases_lt, eq-eqb}
 use Rattle.std.proofs.lemmas.List.{append-nil, append_assoc, get_or_append_left, length-append}
 use Rattle.pages.specs.declared.access.Range.{Range}
 use Rattle.pages.specs.Memory.{Memory}
@@ -12,7 +12,7 @@ use Rattle.round_schedule.specs.Accesses.{stores as writing}
 use Rattle.hart_step.specs.declared.hart.Hart.{Hart}
 use Rattle.hart_step.specs.declared.hart.Stop.{Stop}
 use Rattle.hart_step.specs.DecodedCode.{decoded}
-use Rattle.memory_order.proofs.Facts.{or_cases, or_left, or_right}
+use Rattle.memory_order.proofs.Facts.{or_left, or_right}
 use Rattle.all_endings.specs.Endings.{Ending, opening_bytes}
 use Rattle.all_endings.specs.Factorizing.{IsOpenCall}
 use Rattle.all_endings.specs.Halting.{Halts, KnowsRegisters}
@@ -27,7 +27,7 @@ use Rattle.all_endings.specs.Walking.{AreEndsOf, EndsAt, HartEnding, IsLookedThr
 use Rattle.all_endings.proofs.DecodedRegisters.{decoded_fits}
 use Rattle.all_endings.proofs.Factors.{Paid}
 use Rattle.all_endings.proofs.Lowering.{acts_low, lower_do_as_much, moved_low, stands_low}
-use Rattle.all_endings.proofs.Tables.{tables_whole}
+use Rattle.all_endings.proofs.Tables.{nodes_whole}
 use Rattle.all_endings.proofs.Placing.{runs_behind}
 
 -- ---- lower than lower
@@ -155,80 +155,6 @@ module _ (k : ℕ) (image : Memory) (h : ℕ) (m : List Stored) (start : Hart) (
             walked.grows q.0 s q.1 q.2.next (λ j l here. q.2.paid j l (let t = o.pays j l here in (t.0, t.1, t.2, t.3)))
       ]
 
--- ---- lists that are among others, as a test
-
-same_store : Stored → Stored → Bool
-same_store s u = s.hart == u.hart && (s.address == u.address && (s.bytes == u.bytes && s.number == u.number))
-
-same_list : List Stored → List Stored → Bool
-same_list [] [] = true
-same_list (s ∷ m) (u ∷ n) = same_store s u && same_list m n
-same_list [] (u ∷ n) = false
-same_list (s ∷ m) [] = false
-
-pub is_listed : List (List Stored) → List Stored → Bool
-is_listed [] m = false
-is_listed (n ∷ ns) m = same_list n m || is_listed ns m
-
-abbrev stored : ℕ → ℕ → ℕ → ℕ → Stored
-stored h a m p = record { hart = h; address = a; bytes = m; number = p }
-
-stores_equal : (h i a b m n p q : ℕ) → h ≡ i → a ≡ b → m ≡ n → p ≡ q →
-    stored h a m p ≡ stored i b n q
-stores_equal h i a b m n p q e f g k = cc
-
-store_self : (s : Stored) → same_store s s ≡ true
-unfolding same_store
-store_self s =
-    both (s.hart == s.hart) (s.address == s.address && (s.bytes == s.bytes && s.number == s.number)) (eq-eqb s.hart s.hart refl)
-    (both (s.address == s.address) (s.bytes == s.bytes && s.number == s.number) (eq-eqb s.address s.address refl)
-    (both (s.bytes == s.bytes) (s.number == s.number) (eq-eqb s.bytes s.bytes refl) (eq-eqb s.number s.number refl)))
-
-store_same : (s u : Stored) → same_store s u ≡ true → s ≡ u
-unfolding same_store
-store_same s u e =
-    let hart = and_parts (s.hart == u.hart) (s.address == u.address && (s.bytes == u.bytes && s.number == u.number)) e in
-    let address = and_parts (s.address == u.address) (s.bytes == u.bytes && s.number == u.number) hart.1 in
-    let rest = and_parts (s.bytes == u.bytes) (s.number == u.number) address.1 in
-    let a : s.hart ≡ u.hart = eqb-true s.hart u.hart hart.0 in
-    let b : s.address ≡ u.address = eqb-true s.address u.address address.0 in
-    let c : s.bytes ≡ u.bytes = eqb-true s.bytes u.bytes rest.0 in
-    let d : s.number ≡ u.number = eqb-true s.number u.number rest.1 in
-    stores_equal s.hart u.hart s.address u.address s.bytes u.bytes s.number u.number a b c d
-
-list_self : (m : List Stored) → same_list m m ≡ true
-unfolding same_list
-list_self [] = refl
-list_self (s ∷ m) = both (same_store s s) (same_list m m) (store_self s) (list_self m)
-
-list_same : (m n : List Stored) → same_list m n ≡ true → m ≡ n
-unfolding same_list
-list_same [] [] e = refl
-list_same (s ∷ m) (u ∷ n) e =
-    let parts = and_parts (same_store s u) (same_list m n) e in
-    let first : s ≡ u = store_same s u parts.0 in
-    let rest : m ≡ n = list_same m n parts.1 in
-    cc
-list_same [] (u ∷ n) e = absurd (cc)
-list_same (s ∷ m) [] e = absurd (cc)
-
-listed_at : (ns : List (List Stored)) (m : List Stored) (k : ℕ) → k < length ns → get_or ns k m ≡ m → is_listed ns m ≡ true
-unfolding is_listed
-listed_at [] m k l e = absurd (omega (arith, l))
-listed_at (n ∷ ns) m zero l e = or_left (same_list n m) (is_listed ns m) (subst (λ (x : List Stored). same_list n x ≡ true) e (list_self n))
-listed_at (n ∷ ns) m (suc k) l e = or_right (same_list n m) (is_listed ns m) (listed_at ns m k (omega (arith, l)) e)
-
-pub listed : (ns : List (List Stored)) (m : List Stored) → Contains ns m → is_listed ns m ≡ true
-listed ns m c = listed_at ns m c.0 c.1 c.2
-
-pub unlisted : (ns : List (List Stored)) (m : List Stored) → is_listed ns m ≡ true → Contains ns m
-unfolding is_listed
-unlisted [] m e = absurd (cc)
-unlisted (n ∷ ns) m e = elim (or_cases (same_list n m) (is_listed ns m) e) [
-  | inl here ↦ (0, omega arith, list_same n m here)
-  | inr there ↦ let c = unlisted ns m there in let l = c.1 in (suc c.0, omega (arith, l), c.2)
-]
-
 -- ---- together
 
 knows_low : (a b : RunState) → IsLower a b → KnowsRegisters b → KnowsRegisters a
@@ -295,15 +221,15 @@ choice n (w ∷ ws) (s ∷ ss) (o ∷ os) e f g at =
 
 module _ (k : ℕ) (image : Memory) (hs : List Hart) (see : List Range) (nodes : List (List Stored)) (table : List Ending) (begins : Contains nodes [])
     (looked : (m : List Stored) → Contains nodes m → IsLookedThrough k image hs see nodes table m) where
-  closed : IsClosed k image hs (is_listed nodes)
+  closed : IsClosed k image hs (Contains nodes)
   closed = record {
-    begins = listed nodes [] begins;
+    begins = begins;
     grows = λ m h start s node small at o.
-        let l = looked m (unlisted nodes m node) in
+        let l = looked m node in
         let w = l.walks h start small at in
-        listed nodes (m ++ s ∷ []) (l.grows h s small (offered_all k image h m start (l.offered h) (get_or l.ways h []) w.0 w.1 s o));
+        l.grows h s small (offered_all k image h m start (l.offered h) (get_or l.ways h []) w.0 w.1 s o);
     calls = λ m h start node small at vs a short runs may call.
-        let l = looked m (unlisted nodes m node) in
+        let l = looked m node in
         let w = l.walks h start small at in
         let p = from_start k image h m start (l.offered h) (get_or l.ways h []) w.0 w.1 vs a runs short in
         w.1.calls p.0 p.1 (open_low image p.0.state a p.2.state call);
@@ -332,9 +258,9 @@ module _ (k : ℕ) (image : Memory) (hs : List Hart) (see : List Range) (nodes :
         let c = choice (length hs) l.ways stops outputs l.as_many ends.as_many_stops ends.as_many_outputs (end_at stops outputs ends) in
         subst (λ (e : Ending). Contains table e) (endings_equal _ stops _ outputs (seen_after image see m) c.2 c.3) (l.has c.0 c.1)
 
-  has_endings : HasEndings k image hs see (is_listed nodes) table
-  has_endings m stops outputs node ends = has_ending m (unlisted nodes m node) stops outputs ends
+  has_endings : HasEndings k image hs see (Contains nodes) table
+  has_endings m stops outputs node ends = has_ending m node stops outputs ends
 
 pub walked_whole : WalkedTablesAreWhole
 walked_whole k image hs c see nodes table fresh enough begins looked =
-    tables_whole k image hs c see (is_listed nodes) table fresh enough (closed k image hs see nodes table begins looked) (has_endings k image hs see nodes table begins looked)
+    nodes_whole k image hs c see (Contains nodes) table fresh enough (closed k image hs see nodes table begins looked) (has_endings k image hs see nodes table begins looked)

@@ -13,7 +13,7 @@ use Rattle.execution_checker.specs.Allowed.{Allows}
 use Rattle.all_endings.specs.Endings.{opening_bytes}
 use Rattle.all_endings.specs.Factorizing.{IsOpenCall, IsFresh}
 use Rattle.all_endings.specs.HartRuns.{Acts, IsPlaced, Runs, Stands}
-use Rattle.all_endings.specs.RunStates.{Move, RunState, moved, operates, run_start}
+use Rattle.all_endings.specs.RunStates.{Move, RunState, moved, operates, run_start, stores_from}
 use Rattle.all_endings.specs.StoreLists.{Stored, has_byte, later, no_store, stores_of}
 
 -- where a run stands, hart h may store this right behind the list: all that the store hangs on is known, and its bounds let it stand there
@@ -53,11 +53,11 @@ pub record IsOffered (k : ℕ) (image : Memory) (h : ℕ) (m : List Stored) (ope
   pub pays : Pays h m (before ++ next ∷ rest)
   pub short : length (before ++ next ∷ rest) ≤ k
 
--- a run may still come to do each store that hart h has in the list: it did it, or touched each of its bytes before it alone (rule 1)
+-- a run may still come to do each store that hart h has in the list: it did it, or its bounds for each of its bytes let it
 abbrev pub MayPay : ℕ → List Stored → List Move → RunState → Type 0
 MayPay h m vs a =
     (k : ℕ) → k < length m → (slice_index_or m k no_store).hart ≡ h →
-    ((v : Move) × Contains vs v × (writing v.access ≡ true) × (v.time ≡ k)) ⊎ ((x : ℕ) → has_byte (slice_index_or m k no_store) x ≡ true → a.touched x ≤ k)
+    ((v : Move) × Contains vs v × (writing v.access ≡ true) × (v.time ≡ k)) ⊎ ((x : ℕ) → has_byte (slice_index_or m k no_store) x ≡ true → stores_from a x ≤ k)
 
 -- no run of at most k instructions, which may still do its stores of the list, comes to a call whose number is unknown
 abbrev pub KnowsCalls : ℕ → Memory → ℕ → List Stored → (ℕ → ℕ) → Hart → Type 0
@@ -65,11 +65,11 @@ KnowsCalls k image h m opening start =
     (vs : List Move) (a : RunState) → length vs ≤ k → Runs image h m opening (run_start start) vs a → MayPay h m vs a → IsOpenCall image a → ⊥
 
 -- lists of stores that are closed: the empty one, and with each one those that it can be followed by
-pub record IsClosed (k : ℕ) (image : Memory) (hs : List Hart) (is_node : List Stored → Bool) : Type 0 where
-  pub begins : is_node [] ≡ true
-  pub grows : (m : List Stored) (h : ℕ) (start : Hart) (s : Stored) → is_node m ≡ true → h < length hs → start ≡ slice_index_or hs h start →
-      IsOffered k image h m (opening_bytes image) start s → is_node (m ++ s ∷ []) ≡ true
-  pub calls : (m : List Stored) (h : ℕ) (start : Hart) → is_node m ≡ true → h < length hs → start ≡ slice_index_or hs h start →
+pub record IsClosed (k : ℕ) (image : Memory) (hs : List Hart) (IsNode : List Stored → Type 0) : Type 0 where
+  pub begins : IsNode []
+  pub grows : (m : List Stored) (h : ℕ) (start : Hart) (s : Stored) → IsNode m → h < length hs → start ≡ slice_index_or hs h start →
+      IsOffered k image h m (opening_bytes image) start s → IsNode (m ++ s ∷ [])
+  pub calls : (m : List Stored) (h : ℕ) (start : Hart) → IsNode m → h < length hs → start ≡ slice_index_or hs h start →
       KnowsCalls k image h m (opening_bytes image) start
 
 -- each hart is as it begins, and no hart did more than k instructions
@@ -83,6 +83,6 @@ AreShort k q = (h : ℕ) → count_by (λ (v : Event). v.hart == h) q.events ≤
 abbrev pub ClosedListsHaveAll : Type 0
 ClosedListsHaveAll =
     (k : ℕ) (image : Memory) (hs : List Hart) (c : ConsoleState) (is_node : List Stored → Bool) → AreFresh hs → length c.output + k * length hs ≤ output_room →
-    IsClosed k image hs is_node →
+    IsClosed k image hs (λ m. is_node m ≡ true) →
     (q : Standing) (g : List ℕ) → Executes image (at_start hs c) q → Allows (opening_bytes image) q g → AreShort k q →
     (n : ℕ) → length (stores_of n q.events g) ≡ n → is_node (stores_of n q.events g) ≡ true

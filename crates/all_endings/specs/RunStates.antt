@@ -51,6 +51,10 @@ pub record RunState : Type 0 where
   -- what it has put out, byte by byte
   pub output : List (Option ℕ)
 
+-- the least time of each store to byte x that comes (rules 1, 4, 5, 11 and 13)
+abbrev pub stores_from : RunState → ℕ → ℕ
+stores_from a x = max (a.touched x) (max (max a.kinds.acquires (max a.kinds.load_store a.kinds.store_store)) (max a.carried.steered a.carried.addressed))
+
 abbrev pub run_start : Hart → RunState
 run_start h = record {
   pc = h.pc;

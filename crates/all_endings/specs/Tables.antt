@@ -43,9 +43,9 @@ pub record HartsEnd (k : ℕ) (image : Memory) (hs : List Hart) (m : List Stored
       HartEnds k image h m (opening_bytes image) start (slice_index_or stops h None) (slice_index_or outputs h [])
 
 -- a table has each ending to which harts come over these lists
-abbrev pub HasEndings : ℕ → Memory → List Hart → List Range → (List Stored → Bool) → List Ending → Type 0
-HasEndings k image hs see is_node table =
-    (m : List Stored) (stops : List (Option Stop)) (outputs : List (List ℕ)) → is_node m ≡ true → HartsEnd k image hs m stops outputs →
+abbrev pub HasEndings : ℕ → Memory → List Hart → List Range → (List Stored → Type 0) → List Ending → Type 0
+HasEndings k image hs see IsNode table =
+    (m : List Stored) (stops : List (Option Stop)) (outputs : List (List ℕ)) → IsNode m → HartsEnd k image hs m stops outputs →
     Contains table (record {
       stops = stops;
       outputs = outputs;
@@ -57,5 +57,5 @@ HasEndings k image hs see is_node table =
 abbrev pub ClosedTablesAreWhole : Type 0
 ClosedTablesAreWhole =
     (k : ℕ) (image : Memory) (hs : List Hart) (c : ConsoleState) (see : List Range) (is_node : List Stored → Bool) (table : List Ending) →
-    AreFresh hs → length c.output + k * length hs ≤ output_room → IsClosed k image hs is_node → HasEndings k image hs see is_node table →
+    AreFresh hs → length c.output + k * length hs ≤ output_room → IsClosed k image hs (λ m. is_node m ≡ true) → HasEndings k image hs see (λ m. is_node m ≡ true) table →
     AllEndingsWithin k image hs c see table

@@ -37,7 +37,7 @@ use Rattle.private_bytes.proofs.SharedLists.{byte_passed, found, last_passed, pa
 
 -- ---- what is known
 
-knows_or_not : (x : Registers) (v : List (Option ℕ)) → Knows x v ⊎ (Knows x v → ⊥)
+pub knows_or_not : (x : Registers) (v : List (Option ℕ)) → Knows x v ⊎ (Knows x v → ⊥)
 knows_or_not x v = elim (some_or_none (view v x.address)) [
   | inr none ↦ inr (λ k. unknown (view v x.address) none k.but_data.address)
   | inl address ↦ elim (some_or_none (view v x.value)) [
@@ -55,7 +55,7 @@ knows_or_not x v = elim (some_or_none (view v x.address)) [
     unknown : (o : Option ℕ) → o ≡ None → is_some o ≡ true → ⊥
     unknown o none some = let q : is_some o ≡ false = ap (λ (p : Option ℕ). is_some p) none in cc
 
-exchange_of : (b : Action) (rd address : ℕ) (w : Width) (o : AcquireRelease) → without_data b ≡ Exchange rd address w (λ old. 0) o → (g : ℕ → ℕ) × (b ≡ Exchange rd address w g o)
+pub exchange_of : (b : Action) (rd address : ℕ) (w : Width) (o : AcquireRelease) → without_data b ≡ Exchange rd address w (λ old. 0) o → (g : ℕ → ℕ) × (b ≡ Exchange rd address w g o)
 exchange_of (Exchange rd2 address2 w2 g o2) rd address w o e =
     let a : rd2 ≡ rd = cc in
     let b : address2 ≡ address = cc in
@@ -87,7 +87,7 @@ total_is W8 n l = omega (arith, l)
 
 -- ---- own stores
 
-own_both : (f : ℕ → ℕ) (b : Bool) (p q : Option OwnByte) (o : OwnByte) → OwnMirrors f b p q → q ≡ Some o →
+pub own_both : (f : ℕ → ℕ) (b : Bool) (p q : Option OwnByte) (o : OwnByte) → OwnMirrors f b p q → q ≡ Some o →
     (u : OwnByte) × (p ≡ Some u) × (b ≡ false → u.place ≡ f o.place) × (b ≡ false → u.atomic ≡ o.atomic) × Tells o.byte u.byte × (u.needs ≤ f o.needs)
 own_both f b _ _ o mirrors-none e = absurd (cc)
 own_both f b _ _ o (mirrors-both u p place atomic byte needs) e =
@@ -104,11 +104,11 @@ pub bytes_tell : (f : ℕ → ℕ) (b : Bool) (opening : ℕ) (p q : Option OwnB
 bytes_tell f b opening _ _ mirrors-none = λ n is. is
 bytes_tell f b opening _ _ (mirrors-both u p place atomic byte needs) = byte
 
-needs_below : (f : ℕ → ℕ) (b : Bool) (p q : Option OwnByte) → OwnMirrors f b p q → needs_of p ≤ f (needs_of q)
+pub needs_below : (f : ℕ → ℕ) (b : Bool) (p q : Option OwnByte) → OwnMirrors f b p q → needs_of p ≤ f (needs_of q)
 needs_below f b _ _ mirrors-none = omega arith
 needs_below f b _ _ (mirrors-both u p place atomic byte needs) = needs
 
-past_below : (f : ℕ → ℕ) → Rises f → (p q : Option OwnByte) (t : ℕ) → OwnMirrors f false p q → IsPast q t → IsPast p (f t)
+pub past_below : (f : ℕ → ℕ) → Rises f → (p q : Option OwnByte) (t : ℕ) → OwnMirrors f false p q → IsPast q t → IsPast p (f t)
 past_below f up _ _ t mirrors-none past = past
 past_below f up _ _ t (mirrors-both u p place atomic byte needs) past = let e = place refl in let l = up p.place t past in omega (arith, e, l)
 

@@ -26,7 +26,7 @@ use Rattle.all_endings.specs.Offering.{IsOffered, Offers, Pays}
 use Rattle.all_endings.specs.RunStates.{Move, RunState, answers_to, moved, operates, run_start}
 use Rattle.all_endings.specs.StoreLists.{Stored, has_byte, no_store}
 use Rattle.all_endings.specs.Tables.{HartEnds}
-use Rattle.all_endings.specs.Walking.{HartEnding, IsPaid, Place, place_after}
+use Rattle.all_endings.specs.Walking.{EndsAt, HartEnding, IsPaid, Place, place_after}
 use Rattle.all_endings.proofs.DecodedRegisters.{decoded_fits}
 use Rattle.all_endings.proofs.Factors.{Paid}
 use Rattle.all_endings.proofs.Locality.{not_both, past_end, some_value}
@@ -35,7 +35,7 @@ use Rattle.all_endings.proofs.Placing.{placed, runs_behind}
 use Rattle.private_bytes.specs.Ahead.{OutputTells, TellsAll, tells-more, tells-nothing}
 use Rattle.private_bytes.specs.Owners.{KeepsToItself, Touches, by-conditional, by-exchange, by-read, by-reserve, by-write, is_own, is_private}
 use Rattle.private_bytes.specs.PrivateMoves.{ActsApart, moved_privately}
-use Rattle.private_bytes.specs.PrivateWalks.{IsLost, IsWalkedApart, LeadsOn, StandsForApart, Spot, constant_after, looks_at_none, place_apart, spot_with}
+use Rattle.private_bytes.specs.PrivateWalks.{IsLost, IsWalkedApart, LeadsOn, StandsForApart, Spot, constant_after, first_spot, looks_at_none, place_apart, spot_after, spot_with}
 use Rattle.private_bytes.proofs.ApartMoves.{f_all, most, same_most, shared_acts, up}
 use Rattle.private_bytes.proofs.KeptLists.{IsInOne, Keeps, are_kept, is_shared}
 use Rattle.private_bytes.proofs.Mirroring.{Mirrors, as_apart, mirrors-none, mirrors_ahead}
@@ -45,7 +45,7 @@ use Rattle.private_bytes.proofs.SpotMoves.{StoreTouches, constant_known, did_pri
 
 -- ---- runs
 
-runs_joined : (image : Memory) (h : ℕ) (m : List Stored) (opening : ℕ → ℕ) (a : RunState) (us : List Move) (b : RunState) (vs : List Move) (c : RunState) →
+pub runs_joined : (image : Memory) (h : ℕ) (m : List Stored) (opening : ℕ → ℕ) (a : RunState) (us : List Move) (b : RunState) (vs : List Move) (c : RunState) →
     Runs image h m opening a us b → Runs image h m opening b vs c → Runs image h m opening a (us ++ vs) c
 runs_joined image h m opening a us b _ _ r (runs-none _) = subst (λ (ws : List Move). Runs image h m opening a ws b) (sym (append-nil us)) r
 runs_joined image h m opening a us b _ _ r (runs-more _ c vs v more at doing stand) =
@@ -89,7 +89,7 @@ known_at [] r l = absurd (omega (arith, l))
 known_at (x ∷ xs) zero l = refl
 known_at (x ∷ xs) (suc r) l = known_at xs r (omega (arith, l))
 
-start_mirrors : (owns : ℕ → ℕ → Bool) (h : ℕ) (f : ℕ → ℕ) (start : Hart) → length start.x ≡ 32 → Mirrors owns h f (run_start start) (run_start start)
+pub start_mirrors : (owns : ℕ → ℕ → Bool) (h : ℕ) (f : ℕ → ℕ) (start : Hart) → length start.x ≡ 32 → Mirrors owns h f (run_start start) (run_start start)
 start_mirrors owns h f start sized = record {
   pc = refl;
   registers = λ r n e. e;
@@ -123,14 +123,14 @@ start_mirrors owns h f start sized = record {
 
 -- ---- what is known at the end
 
-known_too : (v w : List (Option ℕ)) → TellsAll v w → (r : ℕ) → is_some (view v r) ≡ true → (n : ℕ) × (view v r ≡ Some n) × (view w r ≡ Some n)
+pub known_too : (v w : List (Option ℕ)) → TellsAll v w → (r : ℕ) → is_some (view v r) ≡ true → (n : ℕ) × (view v r ≡ Some n) × (view w r ≡ Some n)
 known_too v w tells r e = by_view (view v r) refl e
   where
     by_view : (o : Option ℕ) → view v r ≡ o → is_some o ≡ true → (n : ℕ) × (view v r ≡ Some n) × (view w r ≡ Some n)
     by_view None is s = absurd (cc)
     by_view (Some n) is s = (n, is, tells r n is)
 
-refines_too : (v w : List (Option ℕ)) (x : List ℕ) → length w ≡ 32 → TellsAll v w → ((r : ℕ) → r < 32 → is_some (view v r) ≡ true) → Refines v x → Refines w x
+pub refines_too : (v w : List (Option ℕ)) (x : List ℕ) → length w ≡ 32 → TellsAll v w → ((r : ℕ) → r < 32 → is_some (view v r) ≡ true) → Refines v x → Refines w x
 refines_too v w x size tells knows refines r n e = elim (cases_lt r 32) [
   | inl l ↦
       let k = known_too v w tells r (knows r l) in
@@ -140,7 +140,7 @@ refines_too v w x size tells knows refines r n e = elim (cases_lt r 32) [
       absurd (not_both n (get_or w r None) (past_end w r (omega (arith, size, l))) (sym (cond-false (r == 0) (Some 0) (get_or w r None) z) ∙ e))
 ]
 
-outputs_known : (os ps : List (Option ℕ)) → OutputTells os ps → (ns : List ℕ) → os ≡ map (λ n. Some n) ns → ps ≡ map (λ n. Some n) ns
+pub outputs_known : (os ps : List (Option ℕ)) → OutputTells os ps → (ns : List ℕ) → os ≡ map (λ n. Some n) ns → ps ≡ map (λ n. Some n) ns
 outputs_known _ _ tells-nothing ns e = e
 outputs_known _ _ (tells-more o p os ps t rest) [] e = absurd (let l = ap length e in omega (arith, l))
 outputs_known _ _ (tells-more o p os ps t rest) (n ∷ ns) e =
@@ -154,8 +154,7 @@ or_none false e = e
 
 -- ---- runs that spots stand for
 
-module _ (owns : ℕ → ℕ → Bool) (k : ℕ) (image : Memory) (harts h : ℕ) (m : List Stored) (kept : are_kept owns harts m ≡ true) (inside : h < harts) (start : Hart) (sized : length start.x ≡ 32)
-    (offered : List Stored) (ends : List HartEnding) (ps : List Spot) (walked : IsWalkedApart owns k image harts h (those (is_shared owns) m) start offered ends ps) where
+module _ (owns : ℕ → ℕ → Bool) (k : ℕ) (image : Memory) (harts h : ℕ) (m : List Stored) (kept : are_kept owns harts m ≡ true) (inside : h < harts) (start : Hart) (sized : length start.x ≡ 32) where
   abbrev t : ℕ → ℕ
   t = passed (is_shared owns) m
 
@@ -175,17 +174,22 @@ module _ (owns : ℕ → ℕ → Bool) (k : ℕ) (image : Memory) (harts h : ℕ
     pub next : p.place.next ≡ chosen
     pub constant : p.constant ≡ true → is_some (view c.registers 17) ≡ true
 
-  abbrev pub For : List Move → RunState → Option Stored → Type 0
-  For vs c chosen = (p : Spot) × Contains ps p × ForRun p vs c chosen
+  -- what stands for such a spot
+  stands_too : (q p : Spot) (vs : List Move) (c : RunState) (chosen : Option Stored) → StandsForApart n q p → ForRun p vs c chosen → ForRun q vs c chosen
+  stands_too q p vs c chosen s r = record {
+    mirrors = mirrors_ahead owns h t q.place.state p.place.state c s.state r.mirrors;
+    count = (let i = s.count in let j = r.count in omega (arith, i, j));
+    paid = λ j l shared paid. s.paid (t j) (passed_small j l shared) (r.paid j l shared paid);
+    next = s.next ∙ r.next;
+    constant = λ e. r.constant (s.constant e);
+  }
 
-  abbrev AllFit : List Move → RunState → Type 0
+  abbrev pub AllFit : List Move → RunState → Type 0
   AllFit vs c = (x : ℕ) → Fits image h m opening x vs c
 
-  module _ (vs : List Move) (c : RunState) (v : Move) (chosen : Option Stored) (few : length vs < k) (runs : Runs image h m opening (run_start start) vs c) (at : decoded image c.pc ≡ Some v.instruction)
+  module _ (vs : List Move) (c : RunState) (v : Move) (chosen : Option Stored) (runs : Runs image h m opening (run_start start) vs c) (at : decoded image c.pc ≡ Some v.instruction)
       (doing : Acts image h m opening (IsPlaced h m) c v) (stand : operates v ≡ true → Stands c v) (fits : AllFit (vs ++ v ∷ []) (moved h m c v)) (p : Spot)
-      (apart : KeepsToItself owns image harts h p.place.state) (r : ForRun p vs c chosen)
-      (goes : (u : Move) → u.access ≡ v.access → u.time ≡ t v.time → p.place.count < k → decoded image p.place.state.pc ≡ Some u.instruction →
-      ActsApart owns image h n opening (IsPlaced h n) p.place.state u → (operates u ≡ true → Stands p.place.state u) → LeadsOn owns h n ps p u) where
+      (apart : KeepsToItself owns image harts h p.place.state) (r : ForRun p vs c chosen) where
     fit : AreRegisters (registers_of v.instruction)
     fit = decoded_fits image c.pc v.instruction at
 
@@ -216,9 +220,9 @@ module _ (owns : ℕ → ℕ → Bool) (k : ℕ) (image : Memory) (harts h : ℕ
     ]
 
     -- what the run came to isn't lost: it may still do its stores of the list, or did them
-    not_lost : (q : Place) → Mirrors owns h t q.state (moved h m c v) →
+    is_lost : (q : Place) → Mirrors owns h t q.state (moved h m c v) →
         ((j : ℕ) → j < length m → is_shared owns (get_or m j no_store) ≡ true → Paid (vs ++ v ∷ []) j → q.paid (t j) ≡ true) → IsLost h n q → ⊥
-    not_lost q mirror paid lost =
+    is_lost q mirror paid lost =
         let end = f_all owns image harts h m opening kept inside in
         let w = found (is_shared owns) m (length m) lost.store (omega arith) (let l = lost.within in omega (arith, l, end)) in
         let same : get_or n lost.store no_store ≡ get_or m w.0 no_store = ap (λ (i : ℕ). get_or n i no_store) (sym w.3) ∙ (passing (is_shared owns) m w.0 w.1 w.2).1 in
@@ -231,37 +235,56 @@ module _ (owns : ℕ → ℕ → Bool) (k : ℕ) (image : Memory) (harts h : ℕ
               let no : q.paid (t w.0) ≡ false = ap q.paid w.3 ∙ lost.owed in
               cc
           | inr may ↦
-              let a = mirror.touched lost.byte in
-              let b = up owns image harts h m opening kept inside ((moved h m c v).touched lost.byte) w.0 may in
-              let to = w.3 in
+              let after = moved h m c v in
+              let least : (i j : ℕ) → i ≤ t j → j ≤ w.0 → i ≤ lost.store = λ i j l e. let b = up owns image harts h m opening kept inside j w.0 e in let to = w.3 in omega (arith, l, b, to) in
+              let a1 = least (q.state.touched lost.byte) (after.touched lost.byte) (mirror.touched lost.byte) (omega (arith, may)) in
+              let a2 = least q.state.kinds.acquires after.kinds.acquires mirror.kinds.acquires (omega (arith, may)) in
+              let a3 = least q.state.kinds.load_store after.kinds.load_store mirror.kinds.load_store (omega (arith, may)) in
+              let a4 = least q.state.kinds.store_store after.kinds.store_store mirror.kinds.store_store (omega (arith, may)) in
+              let a5 = least q.state.carried.steered after.carried.steered mirror.carried.steered (omega (arith, may)) in
+              let a6 = least q.state.carried.addressed after.carried.addressed mirror.carried.addressed (omega (arith, may)) in
               let late = lost.behind in
-              absurd (omega (arith, a, b, to, late))
+              absurd (omega (arith, a1, a2, a3, a4, a5, a6, late))
         ]
 
-    on_shared : is_private owns h v.access ≡ false → For (vs ++ v ∷ []) (moved h m c v) chosen
+    -- what the spot does next: what it leads to is one for the run as well, and isn't lost
+    pub record Step : Type 0 where
+      pub move : Move
+      pub access : move.access ≡ v.access
+      pub time : move.time ≡ t v.time
+      pub decodes : decoded image p.place.state.pc ≡ Some move.instruction
+      pub acts : ActsApart owns image h n opening (IsPlaced h n) p.place.state move
+      pub stands : operates move ≡ true → Stands p.place.state move
+      pub leads : ForRun (spot_after owns h n p move) (vs ++ v ∷ []) (moved h m c v) chosen
+      pub not_lost : IsLost h n (place_apart owns h n p.place move) → ⊥
+
+    step_to : (result written : Option ℕ) (source : ℕ → ℕ) → ActsApart owns image h n opening (IsPlaced h n) p.place.state (as_apart v (t v.time) result written source) →
+        (after : Place) → place_apart owns h n p.place (as_apart v (t v.time) result written source) ≡ after → Mirrors owns h t after.state (moved h m c v) → after.count ≡ p.place.count + 1 → after.next ≡ p.place.next →
+        ((j : ℕ) → j < length m → is_shared owns (get_or m j no_store) ≡ true → Paid (vs ++ v ∷ []) j → after.paid (t j) ≡ true) → Step
+    step_to result written source acts after to mirror counted next did = record {
+      move = as_apart v (t v.time) result written source;
+      access = refl;
+      time = refl;
+      decodes = ap (decoded image) r.mirrors.pc ∙ at;
+      acts = acts;
+      stands = λ op. stands_apart owns image harts h m opening kept inside p.place.state c v vs r.mirrors keeps_own apart at fit result written source (stand op);
+      leads = subst (λ (z : Place). ForRun (record { place = z; constant = constant_after p.constant (as_apart v (t v.time) result written source) }) (vs ++ v ∷ []) (moved h m c v) chosen) (sym to) (record {
+        mirrors = mirror;
+        count = (let j = r.count in let size = length-append vs (v ∷ []) in omega (arith, counted, j, size));
+        paid = did;
+        next = next ∙ r.next;
+        constant = constant_on;
+      });
+      not_lost = λ lost. is_lost after mirror did (subst (IsLost h n) to lost);
+    }
+
+    on_shared : is_private owns h v.access ≡ false → Step
     on_shared public =
         let d = did_shared owns image harts h m opening kept inside p.place.state c v vs r.mirrors keeps_own apart at fit doing public in
         let u = as_apart v (t v.time) d.result d.written d.source in
-        let to : place_apart owns h n p.place u ≡ place_after h n p.place u =
-        ap (λ (b : Bool). if b then record p.place { state = moved_privately h n p.place.state u; count = p.place.count + 1 } else place_after h n p.place u) public in
-        let did : (j : ℕ) → j < length m → is_shared owns (get_or m j no_store) ≡ true → Paid (vs ++ v ∷ []) j → (place_after h n p.place u).paid (t j) ≡ true =
-        λ j l shared paid. paid_on (writing v.access && t v.time == t j) j l shared paid (λ w e. both (writing v.access) (t v.time == t j) w (eq-eqb (t v.time) (t j) (ap t e))) in
-        elim (goes u refl refl (let i = r.count in omega (arith, i, few)) (ap (decoded image) r.mirrors.pc ∙ at) d.acts
-        (λ op. stands_apart owns image harts h m opening kept inside p.place.state c v vs r.mirrors keeps_own apart at fit d.result d.written d.source (stand op))) [
-          | inr lost ↦ absurd (not_lost (place_after h n p.place u) d.leaves did (subst (IsLost h n) to lost))
-          | inl q ↦
-              let s = subst (λ (z : Place). StandsForApart n q.0 (record { place = z; constant = constant_after p.constant u })) to q.2 in (
-                q.0,
-                q.1,
-                record {
-                  mirrors = mirrors_ahead owns h t q.0.place.state (moved h n p.place.state u) (moved h m c v) s.state d.leaves;
-                  count = (let i = s.count in let j = r.count in let size = length-append vs (v ∷ []) in omega (arith, i, j, size));
-                  paid = λ j l shared paid. s.paid (t j) (passed_small j l shared) (did j l shared paid);
-                  next = s.next ∙ r.next;
-                  constant = λ e. constant_on (s.constant e);
-                },
-              )
-        ]
+        step_to d.result d.written d.source d.acts (place_after h n p.place u)
+        (ap (λ (b : Bool). if b then record p.place { state = moved_privately h n p.place.state u; count = p.place.count + 1 } else place_after h n p.place u) public) d.leaves refl refl
+        (λ j l shared paid. paid_on (writing v.access && t v.time == t j) j l shared paid (λ w e. both (writing v.access) (t v.time == t j) w (eq-eqb (t v.time) (t j) (ap t e))))
 
     not_shared : is_private owns h v.access ≡ true → (j : ℕ) → j < length m → is_shared owns (get_or m j no_store) ≡ true → writing v.access ≡ true → v.time ≡ j → false ≡ true
     not_shared private j l shared w e = elim (placed image h m opening c v doing w) [
@@ -273,66 +296,31 @@ module _ (owns : ℕ → ℕ → Bool) (k : ℕ) (image : Memory) (harts h : ℕ
           sym dry ∙ wet
     ]
 
-    on_private : is_private owns h v.access ≡ true → For (vs ++ v ∷ []) (moved h m c v) chosen
+    on_private : is_private owns h v.access ≡ true → Step
     on_private private =
         let d = did_private owns image harts h m opening kept inside p.place.state c v vs r.mirrors keeps_own apart at fit doing private fits in
         let u = as_apart v (t v.time) d.result d.written d.source in
         let after : Place = record p.place { state = moved_privately h n p.place.state u; count = p.place.count + 1 } in
-        let to : place_apart owns h n p.place u ≡ after = ap (λ (b : Bool). if b then after else place_after h n p.place u) private in
-        let did : (j : ℕ) → j < length m → is_shared owns (get_or m j no_store) ≡ true → Paid (vs ++ v ∷ []) j → p.place.paid (t j) ≡ true =
-        λ j l shared paid. or_none (p.place.paid (t j)) (paid_on false j l shared paid (λ w e. not_shared private j l shared w e)) in
-        elim (goes u refl refl (let i = r.count in omega (arith, i, few)) (ap (decoded image) r.mirrors.pc ∙ at) d.acts
-        (λ op. stands_apart owns image harts h m opening kept inside p.place.state c v vs r.mirrors keeps_own apart at fit d.result d.written d.source (stand op))) [
-          | inr lost ↦ absurd (not_lost after d.leaves did (subst (IsLost h n) to lost))
-          | inl q ↦
-              let s = subst (λ (z : Place). StandsForApart n q.0 (record { place = z; constant = constant_after p.constant u })) to q.2 in (
-                q.0,
-                q.1,
-                record {
-                  mirrors = mirrors_ahead owns h t q.0.place.state (moved_privately h n p.place.state u) (moved h m c v) s.state d.leaves;
-                  count = (let i = s.count in let j = r.count in let size = length-append vs (v ∷ []) in omega (arith, i, j, size));
-                  paid = λ j l shared paid. s.paid (t j) (passed_small j l shared) (did j l shared paid);
-                  next = s.next ∙ r.next;
-                  constant = λ e. constant_on (s.constant e);
-                },
-              )
-        ]
+        step_to d.result d.written d.source d.acts after (ap (λ (b : Bool). if b then after else place_after h n p.place u) private) d.leaves refl refl
+        (λ j l shared paid. or_none (p.place.paid (t j)) (paid_on false j l shared paid (λ w e. not_shared private j l shared w e)))
 
-    one_more : For (vs ++ v ∷ []) (moved h m c v) chosen
-    one_more = by_test (is_private owns h v.access) refl
+    pub one_step : Step
+    one_step = by_test (is_private owns h v.access) refl
       where
-        by_test : (b : Bool) → is_private owns h v.access ≡ b → For (vs ++ v ∷ []) (moved h m c v) chosen
+        by_test : (b : Bool) → is_private owns h v.access ≡ b → Step
         by_test true e = on_private e
         by_test false e = on_shared e
 
-  along : (a : RunState) (us : List Move) (chosen : Option Stored) → Runs image h m opening (run_start start) us a → (p : Spot) → Contains ps p → ForRun p us a chosen →
-      (vs : List Move) (c : RunState) → Runs image h m opening a vs c → AllFit (us ++ vs) c → length us + length vs ≤ k → For (us ++ vs) c chosen
-  along a us chosen before p there r _ _ (runs-none _) fits short = (p, there, subst (λ (ws : List Move). ForRun p ws a chosen) (sym (append-nil us)) r)
-  along a us chosen before p there r _ _ (runs-more _ c vs v runs at doing stand) fits short =
-      let size = length-append vs (v ∷ []) in
-      let joined = length-append us vs in
-      let here : AllFit ((us ++ vs) ++ v ∷ []) (moved h m c v) = λ x. subst (λ (ws : List Move). Fits image h m opening x ws (moved h m c v)) (sym (append_assoc us vs (v ∷ []))) (fits x) in
-      let q = along a us chosen before p there r vs c runs (λ x. fits_before image h m opening x (us ++ vs) c v stand (here x)) (omega (arith, short, size)) in
-      let w = one_more (us ++ vs) c v chosen (omega (arith, short, size, joined)) (runs_joined image h m opening (run_start start) us a vs c before runs) at doing stand here q.0 (walked.apart q.0 q.1) q.2
-      (λ u same time small at2 doing2 stand2. walked.moves q.0 u q.1 small at2 doing2 stand2) in
-      (w.0, w.1, subst (λ (ws : List Move). ForRun w.0 ws (moved h m c v) chosen) (append_assoc us vs (v ∷ [])) w.2)
+  -- ---- where a run begins
 
-  first_for : For [] (run_start start) None
-  first_for =
-      let b = walked.begins in (
-        b.0,
-        b.1,
-        record {
-          mirrors = mirrors_ahead owns h t b.0.place.state (run_start start) (run_start start) b.2.state (start_mirrors owns h t start sized);
-          count = b.2.count;
-          paid = λ j l shared paid. absurd (let i = paid.1.1 in omega (arith, i));
-          next = b.2.next;
-          constant = λ e. known_at start.x 17 (omega (arith, sized));
-        },
-      )
-
-  pub from_start : (vs : List Move) (c : RunState) → Runs image h m opening (run_start start) vs c → AllFit vs c → length vs ≤ k → For vs c None
-  from_start vs c runs fits short = let b = first_for in along (run_start start) [] None (runs-none (run_start start)) b.0 b.1 b.2 vs c runs fits (omega (arith, short))
+  pub first_for : ForRun (first_spot start) [] (run_start start) None
+  first_for = record {
+    mirrors = start_mirrors owns h t start sized;
+    count = omega arith;
+    paid = λ j l shared paid. absurd (let i = paid.1.1 in omega (arith, i));
+    next = refl;
+    constant = λ e. known_at start.x 17 (omega (arith, sized));
+  }
 
   -- a call's number is known
   pub no_open_call : (p : Spot) (vs : List Move) (c : RunState) (chosen : Option Stored) → ForRun p vs c chosen → (decoded image p.place.state.pc ≡ Some Ecall → p.constant ≡ true) → IsOpenCall image c → ⊥
@@ -352,27 +340,21 @@ module _ (owns : ℕ → ℕ → Bool) (k : ℕ) (image : Memory) (harts h : ℕ
   -- ---- a store that is offered
 
   module _ (s : Stored) (o : IsOffered k image h m opening start s) where
-    from_it : Runs image h m opening o.at (o.next ∷ o.rest) o.state
+    pub from_it : Runs image h m opening o.at (o.next ∷ o.rest) o.state
     from_it = runs_behind image h m opening o.at o.next o.decodes o.acts o.stands o.rest o.state o.runs
 
-    all_fit : AllFit (o.before ++ o.next ∷ o.rest) o.state
+    pub all_fit : AllFit (o.before ++ o.next ∷ o.rest) o.state
     all_fit x =
         fits_paid image h m opening x (run_start start) (o.before ++ o.next ∷ o.rest) o.state (runs_joined image h m opening (run_start start) o.before o.at (o.next ∷ o.rest) o.state o.leads from_it) o.pays
 
-    fit_before : AllFit o.before o.at
+    pub fit_before : AllFit o.before o.at
     fit_before x = fits_along image h m opening x o.before o.at (o.next ∷ o.rest) o.state from_it (all_fit x)
 
-    fit_on : AllFit ((o.before ++ o.next ∷ []) ++ o.rest) o.state
+    pub fit_on : AllFit ((o.before ++ o.next ∷ []) ++ o.rest) o.state
     fit_on x = subst (λ (ws : List Move). Fits image h m opening x ws o.state) (sym (append_assoc o.before (o.next ∷ []) o.rest)) (all_fit x)
 
-    fit_behind : AllFit (o.before ++ o.next ∷ []) (moved h m o.at o.next)
+    pub fit_behind : AllFit (o.before ++ o.next ∷ []) (moved h m o.at o.next)
     fit_behind x = fits_along image h m opening x (o.before ++ o.next ∷ []) (moved h m o.at o.next) o.rest o.state o.runs (fit_on x)
-
-    at_it : For o.before o.at None
-    at_it =
-        let joined = length-append o.before (o.next ∷ o.rest) in
-        let short = o.short in
-        from_start o.before o.at o.leads fit_before (omega (arith, joined, short))
 
     own_before : (x : ℕ) → Kept image h m opening x o.before o.at
     own_before x = kept_along image h m opening x start o.before o.at o.leads
@@ -390,85 +372,64 @@ module _ (owns : ℕ → ℕ → Bool) (k : ℕ) (image : Memory) (harts h : ℕ
         ∙ touched_at image (without_data (acts o.at o.offers.move)) touching.plain (address_of o.offers.move.access) touching.touches
         ∙ sym o.offers.address
 
-    -- it touches no byte that is another hart's own
-    pub offered_keeps : Keeps owns harts s
-    offered_keeps =
-        let p = at_it in
-        let apart = walked.apart p.0 p.1 in
-        let same = same_most owns image harts h m opening kept inside p.0.place.state o.at o.offers.move o.before p.2.mirrors own_before apart o.offers.decodes touching.knows in
-        let knows = most owns image harts h m opening kept inside p.0.place.state o.at o.offers.move o.before p.2.mirrors own_before apart o.offers.decodes touching.knows in
-        record {
-          hart = subst (λ (j : ℕ). j < harts) (sym o.offers.hart) inside;
-          one = subst (λ (j : ℕ). IsInOne j s.bytes) (sym o.offers.address) (subst (IsInOne (address_of o.offers.move.access)) (sym o.offers.bytes) touching.one);
-          owner = λ j l own.
-              (apart o.offers.move.instruction touching.plain (address_of o.offers.move.access) j (ap (decoded image) p.2.mirrors.pc ∙ o.offers.decodes) knows
-              (subst (λ (y : Action). Touches image y touching.plain (address_of o.offers.move.access)) (sym same) touching.touches) l (ap (is_own owns j) (sym o.offers.address) ∙ own)).0
-              ∙ sym o.offers.hart;
-        }
+    -- told of a spot of the run
+    module _ (p : Spot) (apart : KeepsToItself owns image harts h p.place.state) (r : ForRun p o.before o.at None) where
+      -- it touches no byte that is another hart's own
+      pub offered_keeps : Keeps owns harts s
+      offered_keeps =
+          let same = same_most owns image harts h m opening kept inside p.place.state o.at o.offers.move o.before r.mirrors own_before apart o.offers.decodes touching.knows in
+          let knows = most owns image harts h m opening kept inside p.place.state o.at o.offers.move o.before r.mirrors own_before apart o.offers.decodes touching.knows in
+          record {
+            hart = subst (λ (j : ℕ). j < harts) (sym o.offers.hart) inside;
+            one = subst (λ (j : ℕ). IsInOne j s.bytes) (sym o.offers.address) (subst (IsInOne (address_of o.offers.move.access)) (sym o.offers.bytes) touching.one);
+            owner = λ j l own.
+                (apart o.offers.move.instruction touching.plain (address_of o.offers.move.access) j (ap (decoded image) r.mirrors.pc ∙ o.offers.decodes) knows
+                (subst (λ (y : Action). Touches image y touching.plain (address_of o.offers.move.access)) (sym same) touching.touches) l (ap (is_own owns j) (sym o.offers.address) ∙ own)).0
+                ∙ sym o.offers.hart;
+          }
 
-    -- to nobody's own bytes it is offered apart as well
-    pub offered_apart : is_own owns h s.address ≡ false → Contains offered s
-    offered_apart public =
-        let p = at_it in
-        let v = o.offers.move in
-        let apart = walked.apart p.0 p.1 in
-        let fit = decoded_fits image o.at.pc v.instruction o.offers.decodes in
-        let now = o.offers.time in
-        let end = f_all owns image harts h m opening kept inside in
-        let none : is_private owns h v.access ≡ false =
-        private_is owns image harts h m opening kept inside p.0.place.state o.at v o.before p.2.mirrors own_before apart o.offers.decodes fit o.offers.stores ∙ ap (is_own owns h) (sym o.offers.address) ∙ public in
-        let a = shared_acts owns image harts h m opening kept inside p.0.place.state o.at v o.before p.2.mirrors own_before apart o.offers.decodes (λ u. u.time ≡ length m) (λ u. u.time ≡ length n)
-        (λ result written none store tells e. ap t e ∙ end) (λ result written late. absurd (omega (arith, late, now))) none o.offers.acts in
-        let offers : Offers image h n opening p.0.place.state s = record {
-          move = as_apart v (t v.time) a.result a.written (λ x. t (v.source x));
-          decodes = ap (decoded image) p.2.mirrors.pc ∙ o.offers.decodes;
-          acts = a.acts;
-          stands = stands_apart owns image harts h m opening kept inside p.0.place.state o.at v o.before p.2.mirrors own_before apart o.offers.decodes fit a.result a.written (λ x. t (v.source x)) o.offers.stands;
-          time = ap t now ∙ end;
-          stores = o.offers.stores;
-          hart = o.offers.hart;
-          address = o.offers.address;
-          bytes = o.offers.bytes;
-          number = a.puts s.number o.offers.number;
-        } in
-        elim (walked.offers p.0 s p.1 p.2.next public offers) [
-          | inl here ↦ here
-          | inr later_on ↦
-              let chosen : ForRun (spot_with p.0 s) o.before o.at (Some s) = record { mirrors = p.2.mirrors; count = p.2.count; paid = p.2.paid; next = refl; constant = p.2.constant } in
-              let joined = length-append o.before (o.next ∷ o.rest) in
-              let parts = length-append o.before (o.next ∷ []) in
-              let short = o.short in
-              let last = passed_all (is_shared owns) m 1 in
-              let next_fit = decoded_fits image o.at.pc o.next.instruction o.decodes in
-              let next_public : is_private owns h o.next.access ≡ false =
-              private_is owns image harts h m opening kept inside p.0.place.state o.at o.next o.before p.2.mirrors own_before apart o.decodes next_fit o.stores ∙ ap (is_own owns h) address_same ∙ public in
-              let first = one_more o.before o.at o.next (Some s) (omega (arith, joined, short)) o.leads o.decodes o.acts o.stands fit_behind (spot_with p.0 s) apart chosen
-              (λ u same time small at doing stand. later_on u small at doing stand (ap (is_private owns h) same ∙ next_public) (ap writing same ∙ o.stores) (time ∙ ap t o.late ∙ last)) in
-              let q = along (moved h m o.at o.next) (o.before ++ o.next ∷ []) (Some s) (runs-more (run_start start) o.at o.before o.next o.leads o.decodes o.acts o.stands) first.0 first.1 first.2
-              o.rest o.state o.runs fit_on (omega (arith, joined, parts, short)) in
-              let all = subst (λ (ws : List Move). ForRun q.0 ws o.state (Some s)) (append_assoc o.before (o.next ∷ []) o.rest) q.2 in
-              walked.grows q.0 s q.1 all.next (paid_apart q.0 (o.before ++ o.next ∷ o.rest) o.state (Some s) all o.pays)
-        ]
+      -- to nobody's own bytes it is offered apart as well
+      pub offers_apart : is_own owns h s.address ≡ false → Offers image h n opening p.place.state s
+      offers_apart public =
+          let v = o.offers.move in
+          let fit = decoded_fits image o.at.pc v.instruction o.offers.decodes in
+          let now = o.offers.time in
+          let end = f_all owns image harts h m opening kept inside in
+          let none : is_private owns h v.access ≡ false =
+          private_is owns image harts h m opening kept inside p.place.state o.at v o.before r.mirrors own_before apart o.offers.decodes fit o.offers.stores ∙ ap (is_own owns h) (sym o.offers.address) ∙ public in
+          let a = shared_acts owns image harts h m opening kept inside p.place.state o.at v o.before r.mirrors own_before apart o.offers.decodes (λ u. u.time ≡ length m) (λ u. u.time ≡ length n)
+          (λ result written none store tells e. ap t e ∙ end) (λ result written late. absurd (omega (arith, late, now))) none o.offers.acts in
+          record {
+            move = as_apart v (t v.time) a.result a.written (λ x. t (v.source x));
+            decodes = ap (decoded image) r.mirrors.pc ∙ o.offers.decodes;
+            acts = a.acts;
+            stands = stands_apart owns image harts h m opening kept inside p.place.state o.at v o.before r.mirrors own_before apart o.offers.decodes fit a.result a.written (λ x. t (v.source x)) o.offers.stands;
+            time = ap t now ∙ end;
+            stores = o.offers.stores;
+            hart = o.offers.hart;
+            address = o.offers.address;
+            bytes = o.offers.bytes;
+            number = a.puts s.number o.offers.number;
+          }
+
+      -- and so is what is done LATER
+      pub next_apart : is_own owns h s.address ≡ false → is_private owns h o.next.access ≡ false
+      next_apart public =
+          private_is owns image harts h m opening kept inside p.place.state o.at o.next o.before r.mirrors own_before apart o.decodes (decoded_fits image o.at.pc o.next.instruction o.decodes) o.stores ∙ ap (is_own owns h) address_same ∙ public
 
   -- ---- ends
 
-  -- the hart has this end apart
-  pub ends_apart : (stop : Option Stop) (output : List ℕ) → HartEnds k image h m opening start stop output → (e : HartEnding) × Contains ends e × (stop ≡ Some e.stop) × (output ≡ e.output)
-  ends_apart stop output e =
-      let p = from_start e.moves e.state e.runs (λ x. fits_paid image h m opening x (run_start start) e.moves e.state e.runs e.pays) e.short in
+  -- a spot of a run that ends has this end
+  pub end_apart : (stop : Option Stop) (output : List ℕ) (e : HartEnds k image h m opening start stop output) (p : Spot) → ForRun p e.moves e.state None → EndsAt image h n p.place (record { stop = e.reason; output = output })
+  end_apart stop output e p r =
       let end = f_all owns image harts h m opening kept inside in
-      let to : HartEnding = record { stop = e.reason; output = output } in (
-        to,
-        walked.endings p.0 to p.1 (record {
-          pays = paid_apart p.0 e.moves e.state None p.2 e.pays;
-          knows = λ r l. let w = known_too e.state.registers p.0.place.state.registers p.2.mirrors.registers r (e.knows r l) in ap (λ (o : Option ℕ). is_some o) w.2;
-          settled = λ x. let a = p.2.mirrors.touched x in let b = up owns image harts h m opening kept inside (e.state.touched x) (length m) (e.settled x) in omega (arith, a, b, end);
-          halts = halts_too p.0.place.state p.2.mirrors e.knows e.halts;
-          puts = outputs_known e.state.output p.0.place.state.output p.2.mirrors.output output e.puts;
-        }),
-        e.stops,
-        refl,
-      )
+      record {
+        pays = paid_apart p e.moves e.state None r e.pays;
+        knows = λ i l. let w = known_too e.state.registers p.place.state.registers r.mirrors.registers i (e.knows i l) in ap (λ (o : Option ℕ). is_some o) w.2;
+        settled = λ x. let a = r.mirrors.touched x in let b = up owns image harts h m opening kept inside (e.state.touched x) (length m) (e.settled x) in omega (arith, a, b, end);
+        halts = halts_too p.place.state r.mirrors e.knows e.halts;
+        puts = outputs_known e.state.output p.place.state.output r.mirrors.output output e.puts;
+      }
     where
       halts_too : (a : RunState) → Mirrors owns h t a e.state → KnowsRegisters e.state → Halts image e.state e.reason → Halts image a e.reason
       halts_too a r knows x = record {
@@ -483,3 +444,79 @@ module _ (owns : ℕ → ℕ → Bool) (k : ℕ) (image : Memory) (harts h : ℕ
         step = x.step;
         stopped = x.stopped;
       }
+
+  -- ---- spots that are walked
+
+  module _ (offered : List Stored) (ends : List HartEnding) (ps : List Spot) (walked : IsWalkedApart owns k image harts h n start offered ends ps) where
+    abbrev pub For : List Move → RunState → Option Stored → Type 0
+    For vs c chosen = (p : Spot) × Contains ps p × ForRun p vs c chosen
+
+    one_more : (vs : List Move) (c : RunState) (v : Move) (chosen : Option Stored) → length vs < k → Runs image h m opening (run_start start) vs c → decoded image c.pc ≡ Some v.instruction →
+        Acts image h m opening (IsPlaced h m) c v → (operates v ≡ true → Stands c v) → AllFit (vs ++ v ∷ []) (moved h m c v) → (p : Spot) → KeepsToItself owns image harts h p.place.state → ForRun p vs c chosen →
+        ((u : Move) → u.access ≡ v.access → u.time ≡ t v.time → p.place.count < k → decoded image p.place.state.pc ≡ Some u.instruction →
+        ActsApart owns image h n opening (IsPlaced h n) p.place.state u → (operates u ≡ true → Stands p.place.state u) → LeadsOn owns h n ps p u) → For (vs ++ v ∷ []) (moved h m c v) chosen
+    one_more vs c v chosen few runs at doing stand fits p apart r goes =
+        let s = one_step vs c v chosen runs at doing stand fits p apart r in
+        elim (goes s.move s.access s.time (let i = r.count in omega (arith, i, few)) s.decodes s.acts s.stands) [
+          | inr lost ↦ absurd (s.not_lost lost)
+          | inl q ↦ (q.0, q.1, stands_too q.0 (spot_after owns h n p s.move) (vs ++ v ∷ []) (moved h m c v) chosen q.2 s.leads)
+        ]
+
+    along : (a : RunState) (us : List Move) (chosen : Option Stored) → Runs image h m opening (run_start start) us a → (p : Spot) → Contains ps p → ForRun p us a chosen →
+        (vs : List Move) (c : RunState) → Runs image h m opening a vs c → AllFit (us ++ vs) c → length us + length vs ≤ k → For (us ++ vs) c chosen
+    along a us chosen before p there r _ _ (runs-none _) fits short = (p, there, subst (λ (ws : List Move). ForRun p ws a chosen) (sym (append-nil us)) r)
+    along a us chosen before p there r _ _ (runs-more _ c vs v runs at doing stand) fits short =
+        let size = length-append vs (v ∷ []) in
+        let joined = length-append us vs in
+        let here : AllFit ((us ++ vs) ++ v ∷ []) (moved h m c v) = λ x. subst (λ (ws : List Move). Fits image h m opening x ws (moved h m c v)) (sym (append_assoc us vs (v ∷ []))) (fits x) in
+        let q = along a us chosen before p there r vs c runs (λ x. fits_before image h m opening x (us ++ vs) c v stand (here x)) (omega (arith, short, size)) in
+        let w = one_more (us ++ vs) c v chosen (omega (arith, short, size, joined)) (runs_joined image h m opening (run_start start) us a vs c before runs) at doing stand here q.0 (walked.apart q.0 q.1) q.2
+        (λ u same time small at2 doing2 stand2. walked.moves q.0 u q.1 small at2 doing2 stand2) in
+        (w.0, w.1, subst (λ (ws : List Move). ForRun w.0 ws (moved h m c v) chosen) (append_assoc us vs (v ∷ [])) w.2)
+
+    pub from_start : (vs : List Move) (c : RunState) → Runs image h m opening (run_start start) vs c → AllFit vs c → length vs ≤ k → For vs c None
+    from_start vs c runs fits short =
+        let b = walked.begins in
+        along (run_start start) [] None (runs-none (run_start start)) b.0 b.1 (stands_too b.0 (first_spot start) [] (run_start start) None b.2 first_for) vs c runs fits (omega (arith, short))
+
+    -- ---- a store that is offered
+
+    module _ (s : Stored) (o : IsOffered k image h m opening start s) where
+      at_it : For o.before o.at None
+      at_it =
+          let joined = length-append o.before (o.next ∷ o.rest) in
+          let short = o.short in
+          from_start o.before o.at o.leads (fit_before s o) (omega (arith, joined, short))
+
+      pub keeps_offered : Keeps owns harts s
+      keeps_offered = let p = at_it in offered_keeps s o p.0 (walked.apart p.0 p.1) p.2
+
+      pub offered_apart : is_own owns h s.address ≡ false → Contains offered s
+      offered_apart public =
+          let p = at_it in
+          let apart = walked.apart p.0 p.1 in
+          elim (walked.offers p.0 s p.1 p.2.next public (offers_apart s o p.0 apart p.2 public)) [
+            | inl here ↦ here
+            | inr later_on ↦
+                let chosen : ForRun (spot_with p.0 s) o.before o.at (Some s) = record { mirrors = p.2.mirrors; count = p.2.count; paid = p.2.paid; next = refl; constant = p.2.constant } in
+                let joined = length-append o.before (o.next ∷ o.rest) in
+                let parts = length-append o.before (o.next ∷ []) in
+                let short = o.short in
+                let last = passed_all (is_shared owns) m 1 in
+                let next_public = next_apart s o p.0 apart p.2 public in
+                let first = one_more o.before o.at o.next (Some s) (omega (arith, joined, short)) o.leads o.decodes o.acts o.stands (fit_behind s o) (spot_with p.0 s) apart chosen
+                (λ u same time small at doing stand. later_on u small at doing stand (ap (is_private owns h) same ∙ next_public) (ap writing same ∙ o.stores) (time ∙ ap t o.late ∙ last)) in
+                let q = along (moved h m o.at o.next) (o.before ++ o.next ∷ []) (Some s) (runs-more (run_start start) o.at o.before o.next o.leads o.decodes o.acts o.stands) first.0 first.1 first.2
+                o.rest o.state o.runs (fit_on s o) (omega (arith, joined, parts, short)) in
+                let all = subst (λ (ws : List Move). ForRun q.0 ws o.state (Some s)) (append_assoc o.before (o.next ∷ []) o.rest) q.2 in
+                walked.grows q.0 s q.1 all.next (paid_apart q.0 (o.before ++ o.next ∷ o.rest) o.state (Some s) all o.pays)
+          ]
+
+    -- ---- ends
+
+    -- the hart has this end apart
+    pub ends_apart : (stop : Option Stop) (output : List ℕ) → HartEnds k image h m opening start stop output → (e : HartEnding) × Contains ends e × (stop ≡ Some e.stop) × (output ≡ e.output)
+    ends_apart stop output e =
+        let p = from_start e.moves e.state e.runs (λ x. fits_paid image h m opening x (run_start start) e.moves e.state e.runs e.pays) e.short in
+        let to : HartEnding = record { stop = e.reason; output = output } in
+        (to, walked.endings p.0 to p.1 (end_apart stop output e p.0 p.2), e.stops, refl)

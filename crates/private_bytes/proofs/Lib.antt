@@ -1,10 +1,10 @@
-mod ApartMoves
-mod Covering
-mod KeptLists
+pub mod ApartMoves
+pub mod Covering
+pub mod KeptLists
 mod LaterLoads
 pub mod Mirroring
-mod OwnStores
+pub mod OwnStores
 mod PrivateTimes
-mod SharedLists
-mod SpotMoves
-mod Together
+pub mod SharedLists
+pub mod SpotMoves
+pub mod Together

@@ -7,13 +7,15 @@ use Rattle.std.proofs.lemmas.List.{append-nil, append_assoc}
 use Rattle.pages.specs.Memory.{Memory, byte_of, in_range}
 use Rattle.round_schedule.specs.Accesses.{address_of, bytes_of, is_sc, loads, stores, writes}
 use Rattle.hart_step.specs.declared.hart.Hart.{Hart}
-use Rattle.memory_order.specs.Operations.{covers, is_amo}
+use Rattle.memory_order.specs.CheckingProgram.{orders_stores}
+use Rattle.memory_order.specs.Operations.{covers, is_acquire, is_amo}
 use Rattle.memory_order.specs.Registers.{registers_of}
 use Rattle.memory_order.proofs.Facts.{or_left, or_right}
-use Rattle.rule_checker.specs.CarriedBounds.{operand_bound}
+use Rattle.rule_checker.specs.CarriedBounds.{operand_bound, sources_bound}
+use Rattle.rule_checker.specs.Kinds.{loads_stores}
 use Rattle.all_endings.specs.HartRuns.{Acts, IsListed, IsPast, IsPlaced, IsRead, Runs, Stands, forwarded, remembered, runs-more, runs-none}
 use Rattle.all_endings.specs.Offering.{MayPay, Pays}
-use Rattle.all_endings.specs.RunStates.{Move, OwnByte, RunState, behind, moved, operates, run_start}
+use Rattle.all_endings.specs.RunStates.{Move, OwnByte, RunState, behind, moved, operates, run_start, stores_from}
 use Rattle.all_endings.specs.StoreLists.{Stored, byte_at, has_byte, last_place, later, no_store}
 use Rattle.all_endings.proofs.Placing.{placed}
 use Rattle.all_endings.proofs.Sources.{both}
@@ -75,10 +77,32 @@ module _ (image : Memory) (h : ℕ) (m : List Stored) (opening : ℕ → ℕ) (x
   writer_touches : (v : Move) → writes v.access x ≡ true → (operates v && covers v.access x) ≡ true
   writer_touches v w = let p = and_parts (stores v.access) (covers v.access x) w in both (loads v.access || stores v.access) (covers v.access x) (or_right (loads v.access) (stores v.access) p.0) p.1
 
-  writer_stands : (a : RunState) (v : Move) → (operates v ≡ true → Stands a v) → writes v.access x ≡ true → a.touched x ≤ v.time
+  bounds_grow : (a : RunState) (v : Move) → stores_from a x ≤ stores_from (moved h m a v) x
+  bounds_grow a v =
+      let t = touched_grows a v in
+      let p = raised (operates v && is_acquire v.access) a.kinds.acquires (behind m v) in
+      let q = raised (loads_stores v.access) a.kinds.load_store a.kinds.loads in
+      let r = raised (orders_stores v.access) a.kinds.store_store a.kinds.stores in
+      let u = raised (registers_of v.instruction).steers a.carried.steered (sources_bound a.carried (registers_of v.instruction)) in
+      omega (arith, t, p, q, r, u)
+    where
+      raised : (c : Bool) (y z : ℕ) → y ≤ (if c then max y z else y)
+      raised true y z = omega arith
+      raised false y z = omega arith
+
+  writer_stands : (a : RunState) (v : Move) → (operates v ≡ true → Stands a v) → writes v.access x ≡ true → stores_from a x ≤ v.time
   writer_stands a v stand w =
       let p = and_parts (stores v.access) (covers v.access x) w in
-      (stand (or_right (loads v.access) (stores v.access) p.0)).touched x p.0 p.1
+      let s = stand (or_right (loads v.access) (stores v.access) p.0) in
+      let t = s.touched x p.0 p.1 in
+      let a0 = s.kinds.0 in
+      let k = s.kinds.2 p.0 in
+      let k0 = k.0 in
+      let k1 = k.1 in
+      let c = s.carried.1 p.0 in
+      let c1 = c.1 in
+      let c2 = c.2 in
+      omega (arith, t, a0, k0, k1, c1, c2)
 
   behind_small : (v : Move) → behind m v ≤ later m
   behind_small v = omega arith
@@ -208,7 +232,7 @@ module _ (image : Memory) (h : ℕ) (m : List Stored) (opening : ℕ → ℕ) (x
   -- the hart's stores of the list to the byte were done, or may still be
   abbrev pub Fits : List Move → RunState → Type 0
   Fits vs c = (k : ℕ) → k < length m → (get_or m k no_store).hart ≡ h → has_byte (get_or m k no_store) x ≡ true →
-      ((v : Move) × Writer vs v × (v.time ≡ k)) ⊎ (c.touched x ≤ k)
+      ((v : Move) × Writer vs v × (v.time ≡ k)) ⊎ (stores_from c x ≤ k)
 
   -- what does a store of the list writes its bytes
   writer_of : (start : RunState) (vs : List Move) (c : RunState) → Runs image h m opening start vs c → (k : ℕ) → k < length m → has_byte (get_or m k no_store) x ≡ true →
@@ -228,7 +252,7 @@ module _ (image : Memory) (h : ℕ) (m : List Stored) (opening : ℕ → ℕ) (x
 
   pub fits_before : (vs : List Move) (b : RunState) (v : Move) → (operates v ≡ true → Stands b v) → Fits (vs ++ v ∷ []) (moved h m b v) → Fits vs b
   fits_before vs b v stand f k l here wet = elim (f k l here wet) [
-    | inr late ↦ inr (let g = touched_grows b v in omega (arith, g, late))
+    | inr late ↦ inr (let g = bounds_grow b v in omega (arith, g, late))
     | inl p ↦ elim (Contains-push_cases vs v p.0 p.1.0) [
       | inl old ↦ inl (p.0, (old, p.1.1), p.2)
       | inr same ↦ inr (

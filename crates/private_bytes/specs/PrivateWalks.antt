@@ -12,7 +12,7 @@ use Rattle.memory_order.specs.Registers.{registers_of}
 use Rattle.all_endings.specs.Endings.{AllEndingsWithin, Ending, opening_bytes}
 use Rattle.all_endings.specs.HartRuns.{IsPlaced, Stands}
 use Rattle.all_endings.specs.Offering.{AreFresh, Offers}
-use Rattle.all_endings.specs.RunStates.{Move, answers_to, operates}
+use Rattle.all_endings.specs.RunStates.{Move, answers_to, operates, stores_from}
 use Rattle.all_endings.specs.StoreLists.{Stored, has_byte, later, no_store}
 use Rattle.all_endings.specs.Walking.{EndsAt, HartEnding, IsLookedThroughBy, IsPaid, Place, first_place, place_after, place_with}
 use Rattle.private_bytes.specs.Ahead.{IsAhead}
@@ -57,8 +57,8 @@ pub record StandsForApart (m : List Stored) (p q : Spot) : Type 0 where
 abbrev pub IsCoveredApart : List Stored → List Spot → Spot → Type 0
 IsCoveredApart m ps q = (p : Spot) × Contains ps p × StandsForApart m p q
 
--- hart h owes a store of the list that it can't do any more: an operation of the hart on one of its bytes stands behind it (rule 1). A run
--- that comes to such a place is none of an execution
+-- hart h owes a store of the list that it can't do any more: its bounds let it stand behind it alone, as where an operation on one of its bytes does
+-- (rule 1). A run that comes to such a place is none of an execution
 pub record IsLost (h : ℕ) (m : List Stored) (p : Place) : Type 0 where
   pub store : ℕ
   pub within : store < length m
@@ -66,7 +66,7 @@ pub record IsLost (h : ℕ) (m : List Stored) (p : Place) : Type 0 where
   pub owed : p.paid store ≡ false
   pub byte : ℕ
   pub has : has_byte (slice_index_or m store no_store) byte ≡ true
-  pub behind : store < p.state.touched byte
+  pub behind : store < stores_from p.state byte
 
 -- what a move leads to is covered, or lost
 abbrev pub LeadsOn : (ℕ → ℕ → Bool) → ℕ → List Stored → List Spot → Spot → Move → Type 0
