@@ -3,7 +3,6 @@ use Rattle.std.specs.Prelude.{◌≡◌, ◌==◌, ◌||◌, ℕ, Bool, true, fa
 use Rattle.pages.specs.Memory.{Memory}
 use Rattle.rv64_decode.specs.declared.instruction.Instr.{Instr}
 use Rattle.rv64_decode.specs.declared.instruction.Instr.TheVariants.{Ecall}
-use Rattle.all_endings.specs.Endings.{opening_bytes}
 use Rattle.all_endings.specs.HartRuns.{Acts, IsPlaced, Stands}
 use Rattle.all_endings.specs.Locality.{view}
 use Rattle.all_endings.specs.RunStates.{Move, RunState, moved, operates}
@@ -34,11 +33,11 @@ abbrev pub HasAnyAnswer : RunState → Instr → Type 0
 HasAnyAnswer a i = (i ≡ Ecall) × (has_any_answer (view a.registers 17) ≡ true)
 
 -- for each move of an instruction of hart h there is one
-abbrev pub HasMovesBy : Memory → ℕ → List Stored → RunState → Instr → List Successor → Type 0
-HasMovesBy image h m a i ss =
-    (v : Move) → v.instruction ≡ i → Acts image h m (opening_bytes image) (IsPlaced h m) a v → (operates v ≡ true → Stands a v) → HasFollower h m a v ss
+abbrev pub HasMovesBy : Memory → ℕ → List Stored → (ℕ → ℕ) → RunState → Instr → List Successor → Type 0
+HasMovesBy image h m opening a i ss =
+    (v : Move) → v.instruction ≡ i → Acts image h m opening (IsPlaced h m) a v → (operates v ≡ true → Stands a v) → HasFollower h m a v ss
 
 -- of such a call alone nothing is said
-abbrev pub AreMovesBy : Memory → ℕ → List Stored → RunState → Instr → Reached → Type 0
-AreMovesBy image h m a i (Whole ss) = HasMovesBy image h m a i ss.items
-AreMovesBy image h m a i AnyAnswer = HasAnyAnswer a i
+abbrev pub AreMovesBy : Memory → ℕ → List Stored → (ℕ → ℕ) → RunState → Instr → Reached → Type 0
+AreMovesBy image h m opening a i (Whole ss) = HasMovesBy image h m opening a i ss.items
+AreMovesBy image h m opening a i AnyAnswer = HasAnyAnswer a i

@@ -5,17 +5,17 @@ ghost use Rattle.rv64_decode.specs.Atomics.{atomic_of};
 ghost use Rattle.hart_step.specs.Numbers.{plus};
 ghost use Rattle.hart_step.specs.Step.{extended_to};
 ghost use Rattle.run_bounds.specs.Operations.{access_of};
-ghost use Rattle.all_endings.specs.Endings.{opening_bytes};
 ghost use Rattle.all_endings.specs.HartRuns.{Gets};
 ghost use Rattle.all_endings.specs.RunStates.{Move, RunState as AbstractState};
+ghost use Rattle.hart_states.specs.Opening.{opening_of};
 ghost use Rattle.hart_states.specs.Readings.{IsSpan};
 ghost use Rattle.hart_states.specs.States.{listed, state_of};
 ghost use Rattle.hart_moves.specs.Choosing.{IsChoiceOf, IsComing, IsFound, IsGot, LoadsSo, exchanged, put_back};
 
 use crate::coming::Coming;
-use hart_states::{Choice, ListedStore, RunState, read_at};
+use hart_states::{Choice, ListedStore, OpeningMemory, RunState, read_at};
 use hart_step::{amo_value, sign_extended};
-use pages::{Pages, Width};
+use pages::Width;
 use run_bounds::{Operation, TouchedByte};
 use rv64_decode::{Atomic, Instr};
 
@@ -31,16 +31,16 @@ pub(crate) struct Got {
 /// What a load gets at a time: nothing that is known where it is later.
 fn got_at(
     list: &[ListedStore],
-    pages: &Pages,
+    memory: &OpeningMemory<'_>,
     known: &[TouchedByte; 8],
     address: u64,
     width: Width,
     time: usize,
 ) -> Option<Got>
-    requires within { address + width_bytes width ≤ length pages.now.memory.bytes }
+    requires within { address + width_bytes width ≤ length memory.now.pages.now.memory.bytes }
     ensures { (a : AbstractState) (v : Move) (o : Option ℕ) →
         IsSpan a known.now address (width_bytes width) → v.time ≡ time →
-        Gets (listed list.now) (opening_bytes pages.now.memory) a v address width o →
+        Gets (listed list.now) (opening_of memory.now) a v address width o →
         IsGot v address (width_bytes width) o result }
 {
     if time > list.len() {
@@ -49,7 +49,7 @@ fn got_at(
             sources: [0; 8],
         });
     }
-    match read_at(list, pages, known, address, width, time) {
+    match read_at(list, memory, known, address, width, time) {
         Some(reading) => {
             let sources = reading.sources;
             Some(Got {
@@ -126,22 +126,22 @@ fn load_of(state: &RunState, coming: &Coming, got: &Got, time: usize) -> Choice
 /// A load, an LR or an AMO at a time, by the rules 2, 3 and 12.
 pub(crate) fn load_at(
     list: &[ListedStore],
-    pages: &Pages,
+    memory: &OpeningMemory<'_>,
     state: &RunState,
     coming: &Coming,
     time: usize,
 ) -> Option<Choice>
     requires coming { IsComing (state_of state.now) coming.now }
     requires within { coming.now.operation.address + width_bytes coming.now.operation.width ≤
-        length pages.now.memory.bytes }
+        length memory.now.pages.now.memory.bytes }
     ensures found { (v : Move) → v.instruction ≡ coming.now.instruction → v.time ≡ time →
-        LoadsSo (listed list.now) (opening_bytes pages.now.memory) (state_of state.now)
+        LoadsSo (listed list.now) (opening_of memory.now) (state_of state.now)
         coming.now.operation v →
         IsFound (listed list.now) (state_of state.now) result v }
     ensures is { IfSome result (λ d. IsChoiceOf (state_of state.now) coming.now d) }
 {
     let (address, width) = (coming.operation.address, coming.operation.width);
-    match got_at(list, pages, &coming.known, address, width, time) {
+    match got_at(list, memory, &coming.known, address, width, time) {
         Some(got) => Some(load_of(state, coming, &got, time)),
         None => None,
     }

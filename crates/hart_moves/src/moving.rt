@@ -5,11 +5,11 @@ ghost use Rattle.rv64_decode.specs.declared.instruction.Instr.TheVariants.{Ecall
 ghost use Rattle.hart_step.specs.DecodedCode.{decoded};
 ghost use Rattle.hart_step.specs.Effect.{action};
 ghost use Rattle.run_bounds.specs.Operations.{operation_in};
-ghost use Rattle.all_endings.specs.Endings.{opening_bytes};
 ghost use Rattle.all_endings.specs.HartRuns.{Acts, IsPlaced};
 ghost use Rattle.all_endings.specs.Locality.{filled};
 ghost use Rattle.all_endings.specs.RunStates.{Move};
 ghost use Rattle.all_endings.specs.StoreLists.{Stored};
+ghost use Rattle.hart_states.specs.Opening.{opening_of};
 ghost use Rattle.hart_states.specs.States.{listed, state_of};
 ghost use Rattle.hart_moves.specs.Choosing.{IsFound};
 ghost use Rattle.hart_moves.specs.Moves.{AreMovesBy};
@@ -19,7 +19,7 @@ use crate::coming::coming_of;
 use crate::computing::{compute, fence};
 use crate::operating::{add_successor, operate};
 use all_endings::destinations_are_written;
-use hart_states::{Choice, ListedStore, RunState, Successor};
+use hart_states::{Choice, ListedStore, OpeningMemory, RunState, Successor};
 use pages::{OutOfMemory, Pages};
 use run_bounds::Operation;
 use rv64_decode::{Instr, decode};
@@ -52,7 +52,7 @@ pub fn instruction_at(pages: &Pages, pc: u64) -> Option<Instr>
 /// `OutOfMemory` alone.
 pub fn operation_moves(
     alloc: Global,
-    pages: &Pages,
+    memory: &OpeningMemory<'_>,
     hart: u8,
     list: &[ListedStore],
     state: &RunState,
@@ -62,12 +62,13 @@ pub fn operation_moves(
     requires is { operation_in (action i.now (filled state.now.registers) state.now.pc) ≡
         Some operation.now }
     ensures { IfOk result (λ r.
-        AreMovesBy pages.now.memory hart (listed list.now) (state_of state.now) i.now r) }
+        AreMovesBy memory.now.pages.now.memory hart (listed list.now) (opening_of memory.now)
+        (state_of state.now) i.now r) }
 {
     destinations_are_written();
-    match coming_of(pages, state, i, operation) {
+    match coming_of(memory.pages, state, i, operation) {
         Some(coming) => {
-            let found = operate(alloc, pages, hart, list, state, &coming)?;
+            let found = operate(alloc, memory, hart, list, state, &coming)?;
             Ok(Reached::Whole(found))
         }
         None => Ok(Reached::Whole(Vec::new(alloc))),
@@ -83,10 +84,9 @@ fn other_choice(
 ) -> Result<Option<Choice>, OutOfMemory>
     requires none { operation_in (action i.now (filled state.now.registers) state.now.pc) ≡ None }
     requires known { decoded pages.now.memory state.now.pc ≡ Some i.now }
-    ensures found { i.now ≢ Ecall → IfOk result (λ o. (h : ℕ) (m : List Stored) (v : Move) →
+    ensures found { i.now ≢ Ecall → IfOk result (λ o. (h : ℕ) (m : List Stored) (opening : ℕ → ℕ) (v : Move) →
         v.instruction ≡ i.now →
-        Acts pages.now.memory h m (opening_bytes pages.now.memory) (IsPlaced h m)
-        (state_of state.now) v → IsFound m (state_of state.now) o v) }
+        Acts pages.now.memory h m opening (IsPlaced h m) (state_of state.now) v → IsFound m (state_of state.now) o v) }
     ensures fits { IfOk result (λ o. IfSome o (λ c. address_of c.access + bytes_of c.access ≡ 0)) }
 {
     destinations_are_written();
@@ -110,8 +110,8 @@ fn call_moves(
     list: &[ListedStore],
     state: &RunState,
 ) -> Result<Reached, OutOfMemory>
-    ensures { IfOk result (λ r.
-        AreMovesBy pages.now.memory hart (listed list.now) (state_of state.now) Ecall r) }
+    ensures { IfOk result (λ r. (opening : ℕ → ℕ) →
+        AreMovesBy pages.now.memory hart (listed list.now) opening (state_of state.now) Ecall r) }
 {
     let _pages = pages.count();
     if has_any_answer(call_number(state)) {
@@ -137,8 +137,8 @@ pub fn other_moves(
 ) -> Result<Reached, OutOfMemory>
     requires none { operation_in (action i.now (filled state.now.registers) state.now.pc) ≡ None }
     requires known { decoded pages.now.memory state.now.pc ≡ Some i.now }
-    ensures { IfOk result (λ r.
-        AreMovesBy pages.now.memory hart (listed list.now) (state_of state.now) i.now r) }
+    ensures { IfOk result (λ r. (opening : ℕ → ℕ) →
+        AreMovesBy pages.now.memory hart (listed list.now) opening (state_of state.now) i.now r) }
 {
     if let Instr::Ecall = *i {
         return call_moves(alloc, pages, hart, list, state);

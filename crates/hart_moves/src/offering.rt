@@ -3,10 +3,10 @@ ghost use Rattle.std.specs.Prelude.{◌≡◌, ℕ, Some};
 ghost use Rattle.hart_step.specs.DecodedCode.{decoded};
 ghost use Rattle.hart_step.specs.Effect.{action};
 ghost use Rattle.run_bounds.specs.Operations.{operation_in};
-ghost use Rattle.all_endings.specs.Endings.{opening_bytes};
 ghost use Rattle.all_endings.specs.Locality.{filled};
 ghost use Rattle.all_endings.specs.Offering.{Offers};
 ghost use Rattle.all_endings.specs.StoreLists.{Stored};
+ghost use Rattle.hart_states.specs.Opening.{opening_of};
 ghost use Rattle.hart_states.specs.States.{listed, state_of};
 ghost use Rattle.hart_moves.specs.Offers.{IsOffer};
 
@@ -15,8 +15,7 @@ use crate::computing::hart_of;
 use crate::moving::instruction_at;
 use crate::operating::operation_at;
 use all_endings::destinations_are_written;
-use hart_states::{ListedStore, RunState};
-use pages::Pages;
+use hart_states::{ListedStore, OpeningMemory, RunState};
 use run_bounds::{Operation, operation_of};
 use rv64_decode::Instr;
 
@@ -42,25 +41,25 @@ fn listed_as(hart: u8, operation: &Operation, written: Option<u64>) -> Option<Li
 
 /// The store of a memory operation that may come right behind the list.
 fn offered(
-    pages: &Pages,
+    memory: &OpeningMemory<'_>,
     hart: u8,
     list: &[ListedStore],
     state: &RunState,
     i: &Instr,
     operation: &Operation,
 ) -> Option<ListedStore>
-    requires known { decoded pages.now.memory state.now.pc ≡ Some i.now }
+    requires known { decoded memory.now.pages.now.memory state.now.pc ≡ Some i.now }
     requires is { operation_in (action i.now (filled state.now.registers) state.now.pc) ≡
         Some operation.now }
-    ensures { (s : Stored) → Offers pages.now.memory hart (listed list.now)
-        (opening_bytes pages.now.memory) (state_of state.now) s → IsOffer result s }
+    ensures { (s : Stored) → Offers memory.now.pages.now.memory hart (listed list.now)
+        (opening_of memory.now) (state_of state.now) s → IsOffer result s }
 {
     destinations_are_written();
-    let coming = match coming_of(pages, state, i, operation) {
+    let coming = match coming_of(memory.pages, state, i, operation) {
         Some(coming) => coming,
         None => return None,
     };
-    match operation_at(list, pages, hart, state, &coming, list.len()) {
+    match operation_at(list, memory, hart, state, &coming, list.len()) {
         Some(choice) => listed_as(hart, operation, choice.written),
         None => None,
     }
@@ -68,19 +67,19 @@ fn offered(
 
 /// The store that may come right behind the list, by the next instruction of a run: there is at most one.
 pub fn offers(
-    pages: &Pages,
+    memory: &OpeningMemory<'_>,
     hart: u8,
     list: &[ListedStore],
     state: &RunState,
 ) -> Option<ListedStore>
-    ensures { (s : Stored) → Offers pages.now.memory hart (listed list.now)
-        (opening_bytes pages.now.memory) (state_of state.now) s → IsOffer result s }
+    ensures { (s : Stored) → Offers memory.now.pages.now.memory hart (listed list.now)
+        (opening_of memory.now) (state_of state.now) s → IsOffer result s }
 {
-    let Some(i) = instruction_at(pages, state.pc) else {
+    let Some(i) = instruction_at(memory.pages, state.pc) else {
         return None;
     };
     match operation_of(&hart_of(state), &i) {
-        Some(operation) => offered(pages, hart, list, state, &i, &operation),
+        Some(operation) => offered(memory, hart, list, state, &i, &operation),
         None => None,
     }
 }

@@ -4,10 +4,10 @@ ghost use Rattle.pages.specs.Memory.{width_bytes};
 ghost use Rattle.round_schedule.specs.Accesses.{address_of, bytes_of};
 ghost use Rattle.round_schedule.specs.Accesses.{stores as writing};
 ghost use Rattle.rule_checker.specs.CarriedBounds.{AreRegisters};
-ghost use Rattle.all_endings.specs.Endings.{opening_bytes};
 ghost use Rattle.all_endings.specs.HartRuns.{IsPlaced, Stands};
 ghost use Rattle.all_endings.specs.RunStates.{Move};
 ghost use Rattle.hart_states.specs.declared.following.Successor.{Successor as Left};
+ghost use Rattle.hart_states.specs.Opening.{opening_of};
 ghost use Rattle.hart_states.specs.States.{listed, state_of};
 ghost use Rattle.hart_moves.specs.Choosing.{DoesSo, FailsSo, IsChoiceOf, IsComing, IsFound};
 ghost use Rattle.hart_moves.specs.Moves.{HasFollower};
@@ -18,9 +18,9 @@ use crate::repeating::{is_again, reads_seen};
 use crate::standing::may_stand;
 use crate::storing::{failing, is_placed, storing_at};
 use all_endings::earlier_moves_are_lower;
-use hart_states::{Choice, ListedStore, RunState, Successor, follow, is_sized};
+use hart_states::{Choice, ListedStore, OpeningMemory, RunState, Successor, follow, is_sized};
 use memory_order::{Registers, used_registers};
-use pages::{OutOfMemory, Pages};
+use pages::OutOfMemory;
 use private_bytes::{early_loads_are_ahead, lower_states_are_ahead};
 use run_bounds::Kind;
 use std::alloc::Global;
@@ -72,7 +72,7 @@ pub fn add_successor(
 /// An operation at a time, wherever the list has it.
 pub(crate) fn operation_at(
     list: &[ListedStore],
-    pages: &Pages,
+    memory: &OpeningMemory<'_>,
     hart: u8,
     state: &RunState,
     coming: &Coming,
@@ -80,22 +80,22 @@ pub(crate) fn operation_at(
 ) -> Option<Choice>
     requires coming { IsComing (state_of state.now) coming.now }
     requires within { coming.now.operation.address + width_bytes coming.now.operation.width ≤
-        length pages.now.memory.bytes }
+        length memory.now.pages.now.memory.bytes }
     ensures found { (v : Move) → v.instruction ≡ coming.now.instruction → v.time ≡ time →
         Stands (state_of state.now) v →
-        DoesSo hart (listed list.now) (opening_bytes pages.now.memory) (state_of state.now)
+        DoesSo hart (listed list.now) (opening_of memory.now) (state_of state.now)
         coming.now.operation v →
         IsFound (listed list.now) (state_of state.now) result v }
     ensures is { IfSome result (λ d. IsChoiceOf (state_of state.now) coming.now d) }
 {
-    let _pages = pages.count();
+    let _pages = memory.pages.count();
     let access = coming.operation.access();
     if !may_stand(state, coming, &access, time) {
         return None;
     }
     match coming.operation.kind {
         Kind::Load | Kind::LoadReserved | Kind::Atomic => {
-            load_at(list, pages, state, coming, time)
+            load_at(list, memory, state, coming, time)
         }
         Kind::Store | Kind::StoreConditional => storing_at(list, hart, state, coming, time),
     }
@@ -104,7 +104,7 @@ pub(crate) fn operation_at(
 /// An operation at a time, where the list has it there if it stores, or it is later.
 fn placed_at(
     list: &[ListedStore],
-    pages: &Pages,
+    memory: &OpeningMemory<'_>,
     hart: u8,
     state: &RunState,
     coming: &Coming,
@@ -112,16 +112,16 @@ fn placed_at(
 ) -> Option<Choice>
     requires coming { IsComing (state_of state.now) coming.now }
     requires within { coming.now.operation.address + width_bytes coming.now.operation.width ≤
-        length pages.now.memory.bytes }
+        length memory.now.pages.now.memory.bytes }
     ensures found { (v : Move) → v.instruction ≡ coming.now.instruction → v.time ≡ time →
         Stands (state_of state.now) v →
-        DoesSo hart (listed list.now) (opening_bytes pages.now.memory) (state_of state.now)
+        DoesSo hart (listed list.now) (opening_of memory.now) (state_of state.now)
         coming.now.operation v →
         (writing v.access ≡ true → IsPlaced hart (listed list.now) v) →
         IsFound (listed list.now) (state_of state.now) result v }
     ensures is { IfSome result (λ d. IsChoiceOf (state_of state.now) coming.now d) }
 {
-    match operation_at(list, pages, hart, state, coming, time) {
+    match operation_at(list, memory, hart, state, coming, time) {
         Some(choice)
             if choice.access.stores()
                 && !is_placed(list, hart, &coming.operation, choice.written, time) => { None }
@@ -132,7 +132,7 @@ fn placed_at(
 /// What the moves of a memory operation leave.
 pub(crate) fn operate(
     alloc: Global,
-    pages: &Pages,
+    memory: &OpeningMemory<'_>,
     hart: u8,
     list: &[ListedStore],
     state: &RunState,
@@ -140,10 +140,10 @@ pub(crate) fn operate(
 ) -> Result<Vec<Successor>, OutOfMemory>
     requires coming { IsComing (state_of state.now) coming.now }
     requires within { coming.now.operation.address + width_bytes coming.now.operation.width ≤
-        length pages.now.memory.bytes }
+        length memory.now.pages.now.memory.bytes }
     ensures does { IfOk result (λ found. (v : Move) → v.instruction ≡ coming.now.instruction →
         Stands (state_of state.now) v →
-        DoesSo hart (listed list.now) (opening_bytes pages.now.memory) (state_of state.now)
+        DoesSo hart (listed list.now) (opening_of memory.now) (state_of state.now)
         coming.now.operation v →
         (writing v.access ≡ true → IsPlaced hart (listed list.now) v) →
         HasFollower hart (listed list.now) (state_of state.now) v found.items) }
@@ -151,7 +151,7 @@ pub(crate) fn operate(
         FailsSo (state_of state.now) coming.now.operation v →
         HasFollower hart (listed list.now) (state_of state.now) v found.items) }
 {
-    let _pages = pages.count();
+    let _pages = memory.pages.count();
     let mut found = Vec::new(alloc);
     add_successor(&mut found, list, hart, state, failing(state, coming))?;
     early_loads_are_ahead();
@@ -160,7 +160,7 @@ pub(crate) fn operate(
     let mut latest: Option<Choice> = None;
     let mut is_enough = false;
     for time in 0..list.len() + 1 {
-        let choice = placed_at(list, pages, hart, state, coming, time);
+        let choice = placed_at(list, memory, hart, state, coming, time);
         if is_again(&latest, &choice) {
             continue;
         }
@@ -171,7 +171,7 @@ pub(crate) fn operate(
     if is_enough {
         return Ok(found);
     }
-    let later = placed_at(list, pages, hart, state, coming, list.len() + 1);
+    let later = placed_at(list, memory, hart, state, coming, list.len() + 1);
     add_successor(&mut found, list, hart, state, later)?;
     Ok(found)
 }

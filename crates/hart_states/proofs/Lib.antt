@@ -1,4 +1,5 @@
 pub mod Choices
 pub mod Kept
+pub mod Opening
 pub mod Readings
 pub mod Touched

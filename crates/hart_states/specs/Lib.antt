@@ -1,4 +1,5 @@
 pub mod Choices
 pub mod Following
+pub mod Opening
 pub mod Readings
 pub mod States

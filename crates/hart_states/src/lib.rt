@@ -5,6 +5,7 @@
 mod choice;
 mod following;
 mod listed_store;
+mod opening_memory;
 mod reading;
 mod registers;
 mod run_state;
@@ -13,6 +14,7 @@ mod touching;
 pub use choice::Choice;
 pub use following::{Successor, follow};
 pub use listed_store::ListedStore;
+pub use opening_memory::OpeningMemory;
 pub use reading::{Reading, read_at, span_known, store_at};
 pub use registers::{answered, filled, known};
 pub use run_state::{RunState, is_sized, start};

@@ -4,16 +4,17 @@ ghost use Rattle.pages.specs.Memory.{byte_of, width_bytes};
 ghost use Rattle.hart_step.specs.Step.{width_bits};
 ghost use Rattle.run_bounds.specs.Touched.{known_at};
 ghost use Rattle.run_bounds.specs.declared.touched.OwnByte.{OwnByte as KeptByte};
-ghost use Rattle.all_endings.specs.Endings.{opening_bytes};
 ghost use Rattle.all_endings.specs.HartRuns.{Gets, IsRead};
 ghost use Rattle.all_endings.specs.RunStates.{Move, RunState};
 ghost use Rattle.all_endings.specs.StoreLists.{byte_at, has_byte, last_place, no_store};
+ghost use Rattle.hart_states.specs.Opening.{opening_of};
 ghost use Rattle.hart_states.specs.Readings.{IsReadingOf, IsSpan};
 ghost use Rattle.hart_states.specs.States.{listed, own_of, stored_of};
 
 use crate::listed_store::ListedStore;
+use crate::opening_memory::OpeningMemory;
 use crate::touching::byte_in;
-use pages::{Pages, Width};
+use pages::Width;
 use run_bounds::{OwnByte, TouchedByte, byte_known};
 
 /// A byte that is read.
@@ -68,13 +69,13 @@ fn last_place(list: &[ListedStore], x: u64, time: usize) -> usize
     0
 }
 
-/// The byte that the store before a place leaves; before all of them, that of memory as it begins.
-fn byte_behind(list: &[ListedStore], pages: &Pages, x: u64, place: usize) -> u8
-    requires within { x < length pages.now.memory.bytes }
-    ensures { result ≡ byte_at (listed list.now) (opening_bytes pages.now.memory) x place }
+/// The byte that the store before a place leaves; before all of them, that of memory where the list begins.
+fn byte_behind(list: &[ListedStore], memory: &OpeningMemory<'_>, x: u64, place: usize) -> u8
+    requires within { x < length memory.now.pages.now.memory.bytes }
+    ensures { result ≡ byte_at (listed list.now) (opening_of memory.now) x place }
 {
     if place == 0 {
-        return pages.byte(x);
+        return memory.byte(x);
     }
     match store_at(list, place - 1) {
         Some(store) => byte_in(store.number, x.saturating_sub(store.address) as usize),
@@ -114,15 +115,15 @@ fn ahead(known: &TouchedByte, time: usize) -> Option<OwnByte>
 /// The byte of the last store before a time.
 fn remembered(
     list: &[ListedStore],
-    pages: &Pages,
+    memory: &OpeningMemory<'_>,
     seen: usize,
     x: u64,
     time: usize,
 ) -> Option<ByteRead>
-    requires within { x < length pages.now.memory.bytes }
+    requires within { x < length memory.now.pages.now.memory.bytes }
     ensures { seen ≤ last_place (listed list.now) x time → result ≡ Some (record {
       source = last_place (listed list.now) x time;
-      byte = byte_at (listed list.now) (opening_bytes pages.now.memory) x
+      byte = byte_at (listed list.now) (opening_of memory.now) x
           (last_place (listed list.now) x time);
     }) }
 {
@@ -132,27 +133,27 @@ fn remembered(
     }
     Some(ByteRead {
         source,
-        byte: byte_behind(list, pages, x, source),
+        byte: byte_behind(list, memory, x, source),
     })
 }
 
 /// What a load reads of a byte at a time, where it can stand there: there is at most one answer.
 fn byte_read(
     list: &[ListedStore],
-    pages: &Pages,
+    memory: &OpeningMemory<'_>,
     known: &TouchedByte,
     x: u64,
     time: usize,
 ) -> Option<ByteRead>
-    requires within { x < length pages.now.memory.bytes }
+    requires within { x < length memory.now.pages.now.memory.bytes }
     ensures { (a : RunState) (place byte : ℕ) → a.own x ≡ option_map own_of known.now.own →
         a.seen x ≡ known.now.seen →
-        IsRead (listed list.now) (opening_bytes pages.now.memory) a time x place byte →
+        IsRead (listed list.now) (opening_of memory.now) a time x place byte →
         result ≡ Some (record { source = place; byte = byte }) }
 {
     match ahead(known, time) {
         Some(own) => forwarded(&own, known.seen, time),
-        None => remembered(list, pages, known.seen, x, time),
+        None => remembered(list, memory, known.seen, x, time),
     }
 }
 
@@ -201,23 +202,23 @@ fn number_of(bytes: &[u8; 8], width: Width) -> u64
 /// What a load reads from an address on at a time, where it can stand there: there is at most one answer.
 pub fn read_at(
     list: &[ListedStore],
-    pages: &Pages,
+    memory: &OpeningMemory<'_>,
     known: &[TouchedByte; 8],
     address: u64,
     width: Width,
     time: usize,
 ) -> Option<Reading>
-    requires within { address + width_bytes width ≤ length pages.now.memory.bytes }
+    requires within { address + width_bytes width ≤ length memory.now.pages.now.memory.bytes }
     ensures { (a : RunState) (v : Move) (n : ℕ) → IsSpan a known.now address (width_bytes width) →
         v.time ≡ time →
-        Gets (listed list.now) (opening_bytes pages.now.memory) a v address width (Some n) →
+        Gets (listed list.now) (opening_of memory.now) a v address width (Some n) →
         IsReadingOf v address (width_bytes width) n result }
 {
-    let _pages = pages.count();
+    let _pages = memory.pages.count();
     let mut bytes = [0u8; 8];
     let mut sources = [0usize; 8];
     for k in 0..width.bytes() as usize {
-        match byte_read(list, pages, &known[k], address + k as u64, time) {
+        match byte_read(list, memory, &known[k], address + k as u64, time) {
             Some(read) => {
                 bytes[k] = read.byte;
                 sources[k] = read.source;

@@ -18,7 +18,6 @@ use Rattle.run_bounds.specs.declared.operation.Kind.{Kind}
 use Rattle.run_bounds.specs.declared.operation.Kind.TheVariants.{Load, Store, LoadReserved, StoreConditional, Atomic}
 use Rattle.run_bounds.specs.declared.operation.Operation.{Operation}
 use Rattle.run_bounds.specs.Operations.{access_as, access_of, no_annotation, operation_in}
-use Rattle.all_endings.specs.Endings.{opening_bytes}
 use Rattle.all_endings.specs.HartRuns.{Acts, IsPlaced, IsWritable, KnowsMost, Stands, acts, branches, calls, data_of, exchanges, exchanges-unknown, fails, jumps, orders, puts, puts-unknown, reads, reserves, succeeds}
 use Rattle.all_endings.specs.HartRuns.{stores as stores_it}
 use Rattle.all_endings.specs.Locality.{DestinationsAreWritten, filled, without_data, written_register}
@@ -165,7 +164,7 @@ follows_shared owns h m a v s public f = record {
 
 -- ---- the moves of the instruction that is there
 
-module _ (owns : ℕ → ℕ → Bool) (image : Memory) (h : ℕ) (m : List Stored) (a : RunState) (i : Instr) (law : DestinationsAreWritten) (there : decoded image a.pc ≡ Some i) where
+module _ (owns : ℕ → ℕ → Bool) (image : Memory) (h : ℕ) (m : List Stored) (opening : ℕ → ℕ) (a : RunState) (i : Instr) (law : DestinationsAreWritten) (there : decoded image a.pc ≡ Some i) where
   same_instruction : (v : Move) → decoded image a.pc ≡ Some v.instruction → v.instruction ≡ i
   same_instruction v at = cc
 
@@ -174,31 +173,31 @@ module _ (owns : ℕ → ℕ → Bool) (image : Memory) (h : ℕ) (m : List Stor
 
   -- where it isn't a plain load or store of own bytes, they are as ever
   pub shared_moves : ((o : Operation) → operation_in (action i (filled a.registers) a.pc) ≡ Some o → (is_plain o.kind && is_own owns h o.address) ≡ false) → (r : Reached) →
-      AreMovesBy image h m a i r → AreMoves owns image h m a r
+      AreMovesBy image h m opening a i r → AreMoves owns image h m opening a r
   shared_moves none (Whole ss) by = λ v at doing stands. elim (cases_Bool (is_private owns h v.access)) [
     | inl private ↦
-        let p = private_move owns image h m (opening_bytes image) a v law private doing in
+        let p = private_move owns image h m opening a v law private doing in
         let e = none p.operation (ap operation_in (sym (same_action v (same_instruction v at))) ∙ p.is) in
         let f : (is_plain p.operation.kind && is_own owns h p.operation.address) ≡ true = ap (λ (b : Bool). b && is_own owns h p.operation.address) p.plain ∙ p.own in
         absurd (cc)
     | inr public ↦
-        let f = by v (same_instruction v at) (shared_move owns image h m (opening_bytes image) a v law public doing) stands in
+        let f = by v (same_instruction v at) (shared_move owns image h m opening a v law public doing) stands in
         (f.0, f.1, follows_shared owns h m a v f.0 public f.2)
   ]
   shared_moves none AnyAnswer by = (i, there, by)
 
   -- where it is one, its move is one on own bytes
   pub private_moves : (o : Operation) → operation_in (action i (filled a.registers) a.pc) ≡ Some o → (is_plain o.kind && is_own owns h o.address) ≡ true → (ss : List Successor) →
-      ((v : Move) → v.instruction ≡ i → IsAble image a i o → DoesPrivately (opening_bytes image) a o v → Stands a v → HasPrivateFollower h m a v ss) → HasMoves owns image h m a ss
+      ((v : Move) → v.instruction ≡ i → IsAble image a i o → DoesPrivately opening a o v → Stands a v → HasPrivateFollower h m a v ss) → HasMoves owns image h m opening a ss
   private_moves o is both ss by = λ v at doing stands.
       let same = same_instruction v at in
       let split = and_parts (is_plain o.kind) (is_own owns h o.address) both in
       let does : operation_in (acts a v) ≡ Some o = ap operation_in (same_action v same) ∙ is in
-      let private = plain_touches owns image h m (opening_bytes image) a v law o does split.0 split.1 doing in
-      let p = private_move owns image h m (opening_bytes image) a v law private doing in
+      let private = plain_touches owns image h m opening a v law o does split.0 split.1 doing in
+      let p = private_move owns image h m opening a v law private doing in
       let one : p.operation ≡ o = same_of p.operation o (sym p.is ∙ does) in
       let able = subst (λ (q : Operation). IsAble image a i q) one (subst (λ (j : Instr). IsAble image a j p.operation) same p.able) in
-      let f = by v same able (subst (λ (q : Operation). DoesPrivately (opening_bytes image) a q v) one p.does)
+      let f = by v same able (subst (λ (q : Operation). DoesPrivately opening a q v) one p.does)
       (stands (and_parts (loads v.access || writing v.access) (is_own owns h (address_of v.access)) private).0) in
       (f.0, f.1, follows_privately owns h m a v f.0 private f.2)
     where

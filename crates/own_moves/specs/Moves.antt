@@ -3,7 +3,6 @@ use Rattle.std.specs.Prelude.{◌≡◌, ℕ, Bool, true, if◌then◌else◌, L
 use Rattle.pages.specs.Memory.{Memory}
 use Rattle.rv64_decode.specs.declared.instruction.Instr.{Instr}
 use Rattle.hart_step.specs.DecodedCode.{decoded}
-use Rattle.all_endings.specs.Endings.{opening_bytes}
 use Rattle.all_endings.specs.HartRuns.{IsPlaced, Stands}
 use Rattle.all_endings.specs.RunStates.{Move, RunState, moved, operates}
 use Rattle.all_endings.specs.StoreLists.{Stored}
@@ -27,12 +26,12 @@ abbrev pub HasFollower : (ℕ → ℕ → Bool) → ℕ → List Stored → RunS
 HasFollower owns h m a v ss = (s : Successor) × Contains ss s × FollowsApart owns h m a v s
 
 -- for each move of hart h there is one
-abbrev pub HasMoves : (ℕ → ℕ → Bool) → Memory → ℕ → List Stored → RunState → List Successor → Type 0
-HasMoves owns image h m a ss =
-    (v : Move) → decoded image a.pc ≡ Some v.instruction → ActsApart owns image h m (opening_bytes image) (IsPlaced h m) a v → (operates v ≡ true → Stands a v) →
+abbrev pub HasMoves : (ℕ → ℕ → Bool) → Memory → ℕ → List Stored → (ℕ → ℕ) → RunState → List Successor → Type 0
+HasMoves owns image h m opening a ss =
+    (v : Move) → decoded image a.pc ≡ Some v.instruction → ActsApart owns image h m opening (IsPlaced h m) a v → (operates v ≡ true → Stands a v) →
     HasFollower owns h m a v ss
 
 -- of a call that may have any answer alone nothing is said
-abbrev pub AreMoves : (ℕ → ℕ → Bool) → Memory → ℕ → List Stored → RunState → Reached → Type 0
-AreMoves owns image h m a (Whole ss) = HasMoves owns image h m a ss.items
-AreMoves owns image h m a AnyAnswer = (i : Instr) × (decoded image a.pc ≡ Some i) × HasAnyAnswer a i
+abbrev pub AreMoves : (ℕ → ℕ → Bool) → Memory → ℕ → List Stored → (ℕ → ℕ) → RunState → Reached → Type 0
+AreMoves owns image h m opening a (Whole ss) = HasMoves owns image h m opening a ss.items
+AreMoves owns image h m opening a AnyAnswer = (i : Instr) × (decoded image a.pc ≡ Some i) × HasAnyAnswer a i

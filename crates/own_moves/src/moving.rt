@@ -1,10 +1,10 @@
 //! The states behind the next instruction of a run.
 ghost use Rattle.std.specs.Prelude.{◌≡◌, ◌&&◌, ◌+◌, ◌≤◌, ℕ, length, IfOk, OnOk, Some};
 ghost use Rattle.pages.specs.Memory.{width_bytes};
-ghost use Rattle.all_endings.specs.Endings.{opening_bytes};
 ghost use Rattle.all_endings.specs.HartRuns.{Stands};
 ghost use Rattle.all_endings.specs.RunStates.{Move};
 ghost use Rattle.hart_moves.specs.Choosing.{IsAble, IsComing};
+ghost use Rattle.hart_states.specs.Opening.{opening_of};
 ghost use Rattle.hart_states.specs.States.{listed, state_of};
 ghost use Rattle.private_bytes.specs.Owners.{is_own};
 ghost use Rattle.own_moves.specs.Moves.{AreMoves};
@@ -20,8 +20,8 @@ use hart_moves::{
     Coming, Reached, add_successor, coming_of, hart_of, instruction_at, operation_moves,
     other_moves,
 };
-use hart_states::{ListedStore, RunState, Successor};
-use pages::{OutOfMemory, Pages};
+use hart_states::{ListedStore, OpeningMemory, RunState, Successor};
+use pages::OutOfMemory;
 use run_bounds::{Kind, Operation, operation_of};
 use rv64_decode::Instr;
 use std::alloc::Global;
@@ -37,7 +37,7 @@ fn is_private(owned: &[OwnDoubleword], hart: u8, operation: &Operation) -> bool
 /// Adds what a plain load or store of own bytes leaves, at its least time.
 fn add_private(
     found: &mut Vec<Successor>,
-    pages: &Pages,
+    memory: &OpeningMemory<'_>,
     hart: u8,
     list: &[ListedStore],
     state: &RunState,
@@ -45,16 +45,16 @@ fn add_private(
 ) -> Result<(), OutOfMemory>
     requires coming { IsComing (state_of state.now) coming.now }
     requires within { coming.now.operation.address + width_bytes coming.now.operation.width ≤
-        length pages.now.memory.bytes }
+        length memory.now.pages.now.memory.bytes }
     ensures { OnOk result ((v : Move) → v.instruction ≡ coming.now.instruction →
-        DoesPrivately (opening_bytes pages.now.memory) (state_of state.now) coming.now.operation
+        DoesPrivately (opening_of memory.now) (state_of state.now) coming.now.operation
         v → Stands (state_of state.now) v →
         HasPrivateFollower hart (listed list.now) (state_of state.now) v found.new.items) }
 {
-    let _pages = pages.count();
+    let _pages = memory.pages.count();
     match coming.operation.kind {
         Kind::Load => {
-            let choice = recall(list, pages, state, coming);
+            let choice = recall(list, memory, state, coming);
             add_successor(found, list, hart, state, Some(choice))?;
             Ok(())
         }
@@ -70,7 +70,7 @@ fn add_private(
 /// The states behind a plain load or store of own bytes: one, or none where memory doesn't let it be done.
 fn private_moves(
     alloc: Global,
-    pages: &Pages,
+    memory: &OpeningMemory<'_>,
     hart: u8,
     list: &[ListedStore],
     state: &RunState,
@@ -78,15 +78,15 @@ fn private_moves(
     operation: &Operation,
 ) -> Result<Vec<Successor>, OutOfMemory>
     ensures { IfOk result (λ found. (v : Move) → v.instruction ≡ i.now →
-        IsAble pages.now.memory (state_of state.now) i.now operation.now →
-        DoesPrivately (opening_bytes pages.now.memory) (state_of state.now) operation.now v →
+        IsAble memory.now.pages.now.memory (state_of state.now) i.now operation.now →
+        DoesPrivately (opening_of memory.now) (state_of state.now) operation.now v →
         Stands (state_of state.now) v →
         HasPrivateFollower hart (listed list.now) (state_of state.now) v found.items) }
 {
     let mut found = Vec::new(alloc);
-    match coming_of(pages, state, i, operation) {
+    match coming_of(memory.pages, state, i, operation) {
         Some(coming) => {
-            add_private(&mut found, pages, hart, list, state, &coming)?;
+            add_private(&mut found, memory, hart, list, state, &coming)?;
             Ok(found)
         }
         None => Ok(found),
@@ -101,25 +101,25 @@ fn private_moves(
 /// `OutOfMemory` alone.
 pub fn moves(
     alloc: Global,
-    pages: &Pages,
+    memory: &OpeningMemory<'_>,
     hart: u8,
     list: &[ListedStore],
     owned: &[OwnDoubleword],
     state: &RunState,
 ) -> Result<Reached, OutOfMemory>
-    ensures { IfOk result (λ r. AreMoves (owns_of owned.now) pages.now.memory hart
-        (listed list.now) (state_of state.now) r) }
+    ensures { IfOk result (λ r. AreMoves (owns_of owned.now) memory.now.pages.now.memory hart
+        (listed list.now) (opening_of memory.now) (state_of state.now) r) }
 {
-    let Some(i) = instruction_at(pages, state.pc) else {
+    let Some(i) = instruction_at(memory.pages, state.pc) else {
         return Ok(Reached::Whole(Vec::new(alloc)));
     };
     destinations_are_written();
     match operation_of(&hart_of(state), &i) {
         Some(operation) if is_private(owned, hart, &operation) => {
-            let found = private_moves(alloc, pages, hart, list, state, &i, &operation)?;
+            let found = private_moves(alloc, memory, hart, list, state, &i, &operation)?;
             Ok(Reached::Whole(found))
         }
-        Some(operation) => operation_moves(alloc, pages, hart, list, state, &i, &operation),
-        None => other_moves(alloc, pages, hart, list, state, &i),
+        Some(operation) => operation_moves(alloc, memory, hart, list, state, &i, &operation),
+        None => other_moves(alloc, memory.pages, hart, list, state, &i),
     }
 }

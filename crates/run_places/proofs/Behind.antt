@@ -10,7 +10,8 @@ use Rattle.hart_states.specs.States.{state_of, stored_of}
 use Rattle.private_bytes.specs.Ahead.{IsAhead}
 use Rattle.private_bytes.specs.Owners.{is_private}
 use Rattle.private_bytes.specs.PrivateMoves.{moved_privately}
-use Rattle.private_bytes.specs.PrivateWalks.{StandsForApart, constant_after, spot_after}
+use Rattle.private_bytes.specs.PrivateWalks.{constant_after, spot_after}
+use Rattle.list_suffixes.specs.ApartRuns.{StandsForAlways}
 use Rattle.run_places.specs.declared.place.Place.{Place as KeptPlace}
 use Rattle.run_places.specs.Spots.{is_among, place_of, spot_of}
 
@@ -30,11 +31,11 @@ module _ (owns : ℕ → ℕ → Bool) (h : ℕ) (m : List Stored) (v : Move) (p
 
   by_private : (b : Bool) → IsAhead (state_of q.state) (if b then moved_privately h m (state_of p.state) v else moved h m (state_of p.state) v) →
       ((j : ℕ) → (if b then None else place_done v) ≡ Some j → is_among q.paid.items j ≡ true) →
-      StandsForApart m (spot_of q) (record { place = behind_by b; constant = constant_after p.constant v })
-  by_private true ahead done = record { state = ahead; count = count; paid = λ j l e. kept j e; next = ap (option_map stored_of) next; constant = constant }
-  by_private false ahead done = record { state = ahead; count = count; paid = λ j l e. did j done e; next = ap (option_map stored_of) next; constant = constant }
+      StandsForAlways (spot_of q) (record { place = behind_by b; constant = constant_after p.constant v })
+  by_private true ahead done = λ n. record { state = ahead; count = count; paid = λ j l e. kept j e; next = ap (option_map stored_of) next; constant = constant }
+  by_private false ahead done = λ n. record { state = ahead; count = count; paid = λ j l e. did j done e; next = ap (option_map stored_of) next; constant = constant }
 
   pub stands_behind : IsAhead (state_of q.state) (if is_private owns h v.access then moved_privately h m (state_of p.state) v else moved h m (state_of p.state) v) →
       ((j : ℕ) → (if is_private owns h v.access then None else place_done v) ≡ Some j → is_among q.paid.items j ≡ true) →
-      StandsForApart m (spot_of q) (spot_after owns h m (spot_of p) v)
+      StandsForAlways (spot_of q) (spot_after owns h m (spot_of p) v)
   stands_behind ahead done = by_private (is_private owns h v.access) ahead done

@@ -1,11 +1,16 @@
 -- Places that are lost, and spots with a store that comes next.
-use Rattle.std.proofs.Common.{◌≡◌, ℕ, ◌+◌, Bool, true, false, if◌then◌else◌, List, refl, arith}
+use Rattle.std.proofs.Common.{◌≡◌, ℕ, ◌+◌, ◌<◌, Bool, true, false, if◌then◌else◌, List, length, get_or, refl, arith}
 use Rattle.all_endings.specs.RunStates.{Move}
-use Rattle.all_endings.specs.StoreLists.{Stored}
+use Rattle.all_endings.specs.StoreLists.{Stored, has_byte, no_store}
 use Rattle.all_endings.specs.Walking.{Place, place_after, place_with}
 use Rattle.private_bytes.specs.Owners.{is_private}
 use Rattle.private_bytes.specs.PrivateMoves.{moved_privately}
 use Rattle.private_bytes.specs.PrivateWalks.{IsLost, Spot, StandsForApart, place_apart, spot_after, spot_with}
+
+-- an operation on a byte of a store that is owed loses it (rule 1)
+pub lost_at : (h : ℕ) (m : List Stored) (p : Place) (j x : ℕ) → j < length m → (get_or m j no_store).hart ≡ h → p.paid j ≡ false → has_byte (get_or m j no_store) x ≡ true →
+    j < p.state.touched x → IsLost h m p
+lost_at h m p j x within mine owed has behind = record { store = j; within = within; hart = mine; owed = owed; byte = x; has = has; behind = omega (arith, behind) }
 
 -- what stands for a place is lost only where that is
 pub lost_by : (h : ℕ) (m : List Stored) (q r : Spot) → StandsForApart m q r → IsLost h m q.place → IsLost h m r.place
@@ -16,7 +21,15 @@ lost_by h m q r stands l = record {
   owed = not_paid (r.place.paid l.store) refl;
   byte = l.byte;
   has = l.has;
-  behind = (let t = stands.state.touched l.byte in let b = l.behind in omega (arith, t, b));
+  behind =
+      (let t = stands.state.touched l.byte in
+      let k0 = stands.state.kinds.acquires in
+      let k1 = stands.state.kinds.load_store in
+      let k2 = stands.state.kinds.store_store in
+      let c0 = stands.state.carried.steered in
+      let c1 = stands.state.carried.addressed in
+      let b = l.behind in
+      omega (arith, t, k0, k1, k2, c0, c1, b));
 }
   where
     not_paid : (b : Bool) → r.place.paid l.store ≡ b → r.place.paid l.store ≡ false

@@ -5,7 +5,8 @@ use Rattle.all_endings.specs.StoreLists.{Stored}
 use Rattle.hart_moves.specs.Offers.{IsOffer}
 use Rattle.hart_states.specs.declared.listed_store.ListedStore.{ListedStore}
 use Rattle.hart_states.specs.States.{stored_of}
-use Rattle.private_bytes.specs.PrivateWalks.{DoesLater, Spot, spot_with}
+use Rattle.private_bytes.specs.PrivateWalks.{Spot, spot_with}
+use Rattle.run_places.specs.Following.{CoverLater}
 use Rattle.run_places.specs.Found.{offer_told}
 
 -- what is offered is this store
@@ -22,14 +23,14 @@ no_offer o s none f = clash f.0 (sym none ∙ f.1)
     clash t e = cc
 
 -- what a spot is offered may come next where the hart owes nothing, and else the hart does it LATER
-pub offers_by : (owns : ℕ → ℕ → Bool) (k : ℕ) (image : Memory) (h : ℕ) (m : List Stored) (p : Spot) (ps : List Spot) (pays : Bool) (offer chosen told : Option ListedStore) (s : Stored) →
+pub offers_by : (owns : ℕ → ℕ → Bool) (k : ℕ) (image : Memory) (h : ℕ) (m : List Stored) (opening : ℕ → ℕ) (p : Spot) (ps : List Spot) (pays : Bool) (offer chosen told : Option ListedStore) (s : Stored) →
     IsOffer offer s → (pays ≡ true → told ≡ offer) → (pays ≡ false → chosen ≡ offer) →
-    ((t : ListedStore) → chosen ≡ Some t → DoesLater owns k image h m ps (spot_with p (stored_of t))) →
-    Contains (offer_told told) s ⊎ DoesLater owns k image h m ps (spot_with p s)
-offers_by owns k image h m p ps true offer chosen told s o telling choosing later =
+    ((t : ListedStore) → chosen ≡ Some t → CoverLater owns k image h m opening (spot_with p (stored_of t)) ps) →
+    Contains (offer_told told) s ⊎ CoverLater owns k image h m opening (spot_with p s) ps
+offers_by owns k image h m opening p ps true offer chosen told s o telling choosing later =
     inl (subst (λ (x : Option ListedStore). Contains (offer_told x) s) (sym (telling refl ∙ o.1)) (0, omega arith, o.2))
-offers_by owns k image h m p ps false offer chosen told s o telling choosing later =
-    inr (subst (λ (x : Stored). DoesLater owns k image h m ps (spot_with p x)) o.2 (later o.0 (choosing refl ∙ o.1)))
+offers_by owns k image h m opening p ps false offer chosen told s o telling choosing later =
+    inr (subst (λ (x : Stored). CoverLater owns k image h m opening (spot_with p x) ps) o.2 (later o.0 (choosing refl ∙ o.1)))
 
 pub no_next : (next : Option ListedStore) → option_map stored_of next ≡ None → next ≡ None
 no_next None e = refl

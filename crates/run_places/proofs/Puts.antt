@@ -10,7 +10,6 @@ use Rattle.hart_step.specs.Effect.{Action, Put, action}
 use Rattle.hart_step.specs.Numbers.{plus}
 use Rattle.hart_step.specs.Registers.{reg}
 use Rattle.memory_order.specs.Registers.{registers_of}
-use Rattle.all_endings.specs.Endings.{opening_bytes}
 use Rattle.all_endings.specs.HartRuns.{Acts, IsPlaced, acts, branches, calls, exchanges, exchanges-unknown, fails, jumps, orders, puts, puts-unknown, reads, reserves, stores, succeeds}
 use Rattle.all_endings.specs.Locality.{filled, without_data}
 use Rattle.all_endings.specs.RunStates.{Move, RunState, answers_to, operates}
@@ -56,11 +55,11 @@ by_register true before looks operation l o b = let p = l refl in let q = o refl
 by_register false before looks operation l o b = b refl
 
 pub stays_by : (before : Bool) (i : Instr) → ((answers_to i == 17) ≡ true → PutsConstant i) → ((answers_to i == 17) ≡ false → before ≡ true) → LeavesConstant before i
-stays_by before i put_by keeps_it owns image h m a v is acting =
+stays_by before i put_by keeps_it owns image h m opening a v is acting =
     subst (λ (j : Instr). (if answers_to j == 17 then looks_at_none (registers_of j) && not (operates v) else before) ≡ true) (sym is)
     (by_register (answers_to i == 17) before (looks_at_none (registers_of i)) (operates v) (λ e. (put_by e).looks)
     (λ e. let p = (put_by e).puts (filled a.registers) a.pc in
-    none_apart image h m (opening_bytes image) a v p.0 p.1 (ap (λ (j : Instr). action j (filled a.registers) a.pc) is ∙ p.2) owns acting)
+    none_apart image h m opening a v p.0 p.1 (ap (λ (j : Instr). action j (filled a.registers) a.pc) is ∙ p.2) owns acting)
     keeps_it)
 
 pub addi_puts : (i : Instr) (rd rs1 imm : ℕ) → i ≡ Addi rd rs1 imm → rs1 ≡ 0 → PutsConstant i

@@ -9,6 +9,7 @@ use Rattle.all_endings.specs.RunStates.{OwnByte, RunState}
 use Rattle.hart_states.proofs.Kept.{carried_equal, kinds_equal}
 use Rattle.private_bytes.specs.Ahead.{IsAhead, OutputTells, OwnAhead, ahead-both, ahead-none, tells-more, tells-nothing}
 use Rattle.private_bytes.specs.PrivateWalks.{IsCoveredApart, Spot, StandsForApart}
+use Rattle.list_suffixes.specs.SettledWalks.{AreAhead}
 use Rattle.run_places.specs.declared.place.Place.{Place as KeptPlace}
 use Rattle.run_places.specs.Spots.{Grows, spot_of, spots_of}
 
@@ -116,6 +117,9 @@ stays ps qs p g c =
 
 pub covered_stays : (m : List Stored) (ps qs : List KeptPlace) (p : Spot) → Grows ps qs → IsCoveredApart m (spots_of ps) p → IsCoveredApart m (spots_of qs) p
 covered_stays m ps qs p g c = (c.0, stays ps qs c.0 g c.1, c.2)
+
+pub ahead_stays : (ps qs : List KeptPlace) (p : Spot) → Grows ps qs → AreAhead (spots_of ps) p → AreAhead (spots_of qs) p
+ahead_stays ps qs p g c = (c.0, stays ps qs c.0 g c.1, c.2)
 
 -- a place that came is there
 pub came : (ps qs : List KeptPlace) (p : KeptPlace) → qs ≡ ps ++ p ∷ [] → Contains (spots_of qs) (spot_of p)

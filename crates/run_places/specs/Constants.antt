@@ -5,7 +5,6 @@ use Rattle.rv64_decode.specs.declared.instruction.Instr.{Instr}
 use Rattle.hart_step.specs.DecodedCode.{decoded}
 use Rattle.hart_step.specs.Effect.{Put, action}
 use Rattle.memory_order.specs.Registers.{registers_of}
-use Rattle.all_endings.specs.Endings.{opening_bytes}
 use Rattle.all_endings.specs.HartRuns.{IsPlaced}
 use Rattle.all_endings.specs.RunStates.{Move, RunState}
 use Rattle.all_endings.specs.StoreLists.{Stored}
@@ -20,11 +19,11 @@ pub record PutsConstant (i : Instr) : Type 0 where
 -- whatever move an instruction makes, the number is a constant behind it
 abbrev pub LeavesConstant : Bool → Instr → Type 0
 LeavesConstant before i =
-    (owns : ℕ → ℕ → Bool) (image : Memory) (h : ℕ) (m : List Stored) (a : RunState) (v : Move) → v.instruction ≡ i →
-    ActsApart owns image h m (opening_bytes image) (IsPlaced h m) a v → constant_after before v ≡ true
+    (owns : ℕ → ℕ → Bool) (image : Memory) (h : ℕ) (m : List Stored) (opening : ℕ → ℕ) (a : RunState) (v : Move) → v.instruction ≡ i →
+    ActsApart owns image h m opening (IsPlaced h m) a v → constant_after before v ≡ true
 
 -- the same of each move from a spot
 abbrev pub GoesOnConstant : Memory → Spot → Type 0
 GoesOnConstant image p =
-    (owns : ℕ → ℕ → Bool) (h : ℕ) (m : List Stored) (v : Move) → decoded image p.place.state.pc ≡ Some v.instruction →
-    ActsApart owns image h m (opening_bytes image) (IsPlaced h m) p.place.state v → constant_after p.constant v ≡ true
+    (owns : ℕ → ℕ → Bool) (h : ℕ) (m : List Stored) (opening : ℕ → ℕ) (v : Move) → decoded image p.place.state.pc ≡ Some v.instruction →
+    ActsApart owns image h m opening (IsPlaced h m) p.place.state v → constant_after p.constant v ≡ true

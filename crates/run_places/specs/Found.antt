@@ -20,6 +20,6 @@ offer_told o = listed (option_to_list o)
 abbrev pub end_found : Option HartEnd → List HartEnding
 end_found e = ends_told (option_to_list e)
 
-abbrev pub IsOutcomeOf : (ℕ → ℕ → Bool) → ℕ → Memory → ℕ → ℕ → List Stored → Spot → Outcome → Type 0
-IsOutcomeOf owns k image harts h m p (Whole f) = IsFollowed owns k image harts h m p (offer_told f.offered) (end_found f.end) (spots_of f.reached.items)
-IsOutcomeOf owns k image harts h m p (Unknown why) = Unit {0}
+abbrev pub IsOutcomeOf : (ℕ → ℕ → Bool) → ℕ → Memory → ℕ → ℕ → List Stored → (ℕ → ℕ) → Spot → Outcome → Type 0
+IsOutcomeOf owns k image harts h m opening p (Whole f) = IsFollowed owns k image harts h m opening p (offer_told f.offered) (end_found f.end) (spots_of f.reached.items)
+IsOutcomeOf owns k image harts h m opening p (Unknown why) = Unit {0}

@@ -1,9 +1,8 @@
 //! States and places that stand for others.
-ghost use Rattle.std.specs.Prelude.{◌≡◌, ◌≤◌, ◌<◌, ℕ, true, List, IsTrue, length};
-ghost use Rattle.all_endings.specs.StoreLists.{Stored};
+ghost use Rattle.std.specs.Prelude.{◌≡◌, ◌≤◌, ◌<◌, ℕ, true, IsTrue, length};
 ghost use Rattle.hart_states.specs.States.{state_of};
 ghost use Rattle.private_bytes.specs.Ahead.{IsAhead, OutputTells, Tells, TellsAll};
-ghost use Rattle.private_bytes.specs.PrivateWalks.{StandsForApart};
+ghost use Rattle.list_suffixes.specs.ApartRuns.{StandsForAlways};
 ghost use Rattle.run_places.specs.Spots.{is_among, spot_of};
 
 use crate::bounds::{all_at_most, byte_tells, bytes_ahead, carried_at_most, kinds_at_most};
@@ -12,9 +11,8 @@ use hart_states::RunState;
 
 /// Whether a place stands for another one: it was reached by no more instructions, its bounds are at most the other's, it knows what the
 /// other one knows, it did all that the other one did of the list, and it is the same otherwise.
-pub(crate) fn stands_for(place: &Place, other: &Place) -> bool
-    ensures { IsTrue result → (m : List Stored) →
-        StandsForApart m (spot_of place.now) (spot_of other.now) }
+pub fn stands_for(place: &Place, other: &Place) -> bool
+    ensures { IsTrue result → StandsForAlways (spot_of place.now) (spot_of other.now) }
 {
     place.count <= other.count
         && place.next == other.next

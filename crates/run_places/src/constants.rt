@@ -14,7 +14,7 @@ use rv64_decode::Instr;
 const CALL_NUMBER: usize = 17;
 
 /// Whether a call comes next whose number isn't a constant of the code.
-pub(crate) fn is_open_call(pages: &Pages, place: &Place) -> bool
+pub fn is_open_call(pages: &Pages, place: &Place) -> bool
     ensures { result ≡ false → KnowsCall pages.now.memory (spot_of place.now) }
 {
     match instruction_at(pages, place.state.pc) {
@@ -46,7 +46,7 @@ fn constant_behind(before: bool, i: &Instr) -> bool
 }
 
 /// Whether the number in x17 is a constant of the code behind the next instruction of a place.
-pub(crate) fn stays_constant(pages: &Pages, place: &Place) -> bool
+pub fn stays_constant(pages: &Pages, place: &Place) -> bool
     ensures { IsTrue result → GoesOnConstant pages.now.memory (spot_of place.now) }
 {
     match instruction_at(pages, place.state.pc) {

@@ -1,7 +1,6 @@
 //! The places of a hart's runs, each beside those with the same mark.
-ghost use Rattle.std.specs.Prelude.{◌≡◌, List, [], IsTrue, OnOk};
-ghost use Rattle.all_endings.specs.StoreLists.{Stored};
-ghost use Rattle.private_bytes.specs.PrivateWalks.{IsCoveredApart};
+ghost use Rattle.std.specs.Prelude.{◌≡◌, [], IsTrue, OnOk};
+ghost use Rattle.list_suffixes.specs.SettledWalks.{AreAhead};
 ghost use Rattle.run_places.specs.Spots.{Grows, spot_of, spots_of};
 
 use crate::ahead::stands_for;
@@ -11,11 +10,11 @@ use pages::OutOfMemory;
 use std::alloc::Global;
 use std::collections::HashMap;
 
-/// The places so far.
+/// Places of a hart's runs: of those that were come to, each for which none stands that was come to before.
 #[derive(Drop)]
-pub(crate) struct Places {
+pub struct Places {
     /// In the order in which they were come to.
-    pub(crate) all: Vec<Place>,
+    pub all: Vec<Place>,
     /// Of each mark the latest of the places that have it, and of each place the one before it with the same mark. No more hangs on them
     /// than which places are looked at.
     latest: HashMap<u64, usize>,
@@ -24,7 +23,7 @@ pub(crate) struct Places {
 
 impl Places {
     /// None so far.
-    pub(crate) fn new(alloc: Global) -> Places
+    pub fn new(alloc: Global) -> Places
         ensures { result.all.items ≡ [] }
     {
         Places {
@@ -39,10 +38,9 @@ impl Places {
     /// # Errors
     ///
     /// `OutOfMemory` alone.
-    pub(crate) fn add(&mut self, place: Place) -> Result<(), OutOfMemory>
+    pub fn add(&mut self, place: Place) -> Result<(), OutOfMemory>
         ensures grows { OnOk result (Grows self.old.all.items self.new.all.items) }
-        ensures covered { OnOk result ((m : List Stored) →
-            IsCoveredApart m (spots_of self.new.all.items) (spot_of place)) }
+        ensures covered { OnOk result (AreAhead (spots_of self.new.all.items) (spot_of place)) }
     {
         let mark = mark_of(&place);
         if self.covers(&place, mark) {
@@ -58,8 +56,8 @@ impl Places {
 
     /// Whether one that is there, with the same mark, stands for a place.
     fn covers(&self, place: &Place, mark: u64) -> bool
-        ensures { IsTrue result → (m : List Stored) →
-            IsCoveredApart m (spots_of self.now.all.items) (spot_of place.now) }
+        ensures { IsTrue result →
+            AreAhead (spots_of self.now.all.items) (spot_of place.now) }
     {
         let mut at = self.latest.get(&mark).copied();
         for _ in 0..self.all.len() {
@@ -81,8 +79,7 @@ impl Places {
 
 /// Whether a place that is there stands for another one.
 fn stands_at(all: &[Place], index: usize, place: &Place) -> bool
-    ensures { IsTrue result → (m : List Stored) →
-        IsCoveredApart m (spots_of all.now) (spot_of place.now) }
+    ensures { IsTrue result → AreAhead (spots_of all.now) (spot_of place.now) }
 {
     if index >= all.len() {
         return false;

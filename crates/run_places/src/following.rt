@@ -1,15 +1,15 @@
 //! What follows one place.
 ghost use Rattle.std.specs.Prelude.{◌≡◌, ℕ, List, map, IfOk, IfSome, IsSomeAnd, IsTrue, None, Some, false};
-ghost use Rattle.all_endings.specs.Endings.{opening_bytes};
 ghost use Rattle.all_endings.specs.Offering.{Offers};
 ghost use Rattle.all_endings.specs.StoreLists.{Stored};
 ghost use Rattle.all_endings.specs.Walking.{IsPaid};
+ghost use Rattle.hart_states.specs.Opening.{opening_of};
 ghost use Rattle.hart_states.specs.States.{listed, state_of, stored_of};
 ghost use Rattle.own_moves.specs.Owned.{owns_of};
 ghost use Rattle.private_bytes.specs.Owners.{KeepsToItself, is_own};
-ghost use Rattle.private_bytes.specs.PrivateWalks.{DoesLater, spot_with};
+ghost use Rattle.private_bytes.specs.PrivateWalks.{spot_with};
 ghost use Rattle.hart_moves.specs.Offers.{IsOffer};
-ghost use Rattle.run_places.specs.Following.{CoverMoves, TellEnds};
+ghost use Rattle.run_places.specs.Following.{CoverLater, CoverMoves, TellEnds};
 ghost use Rattle.run_places.specs.Found.{IsOutcomeOf, end_found};
 ghost use Rattle.run_places.specs.Spots.{place_of, spot_of, spots_of};
 
@@ -20,16 +20,16 @@ use crate::reaching::places_behind;
 use all_endings::stops_are_known;
 use hart_ends::HartEnd;
 use hart_moves::{Reached, is_settled, knows_registers, offers, stop_of};
-use hart_states::ListedStore;
+use hart_states::{ListedStore, OpeningMemory};
 use own_moves::{OwnDoubleword, is_own, moves, strays_to};
-use pages::{OutOfMemory, Pages};
+use pages::OutOfMemory;
 use std::alloc::Global;
 
 /// What a hart's runs are walked against.
 #[derive(Clone, Copy)]
 pub struct Against<'a> {
-    /// Memory as it is at the start.
-    pub pages: &'a Pages,
+    /// Memory where the list begins.
+    pub memory: OpeningMemory<'a>,
     /// The hart's number.
     pub hart: u8,
     /// How many harts there are.
@@ -88,10 +88,10 @@ pub(crate) fn follow(
 ) -> Result<Outcome, OutOfMemory>
     ensures { IfOk result (λ f.
         IsOutcomeOf (owns_of against.now.owned.now) against.now.steps
-        against.now.pages.now.memory against.now.harts against.now.hart
-        (listed against.now.list.now) (spot_of place.now) f) }
+        against.now.memory.pages.now.memory against.now.harts against.now.hart
+        (listed against.now.list.now) (opening_of against.now.memory) (spot_of place.now) f) }
 {
-    if is_open_call(against.pages, place) {
+    if is_open_call(against.memory.pages, place) {
         return Ok(Outcome::Unknown(Omission::OpenCall));
     }
     if let Some(doubleword) = strays(against, place) {
@@ -113,13 +113,13 @@ pub(crate) fn follow(
 }
 
 /// A doubleword that isn't the hart's to touch so, and that it touches next.
-fn strays(against: &Against<'_>, place: &Place) -> Option<u64>
+pub fn strays(against: &Against<'_>, place: &Place) -> Option<u64>
     ensures { result ≡ None → KeepsToItself (owns_of against.now.owned.now)
-        against.now.pages.now.memory against.now.harts against.now.hart
+        against.now.memory.pages.now.memory against.now.harts against.now.hart
         (state_of place.now.state) }
 {
     strays_to(
-        against.pages,
+        against.memory.pages,
         against.hart,
         against.harts,
         against.owned,
@@ -137,19 +137,20 @@ fn moved(
 ) -> Result<Option<Vec<Place>>, OutOfMemory>
     ensures moves { IfOk result (λ r. IfSome r (λ ps.
         CoverMoves (owns_of against.now.owned.now) against.now.steps
-        against.now.pages.now.memory against.now.hart (listed against.now.list.now)
-        (spot_of place.now) (spots_of ps.items))) }
+        against.now.memory.pages.now.memory against.now.hart (listed against.now.list.now)
+        (opening_of against.now.memory) (spot_of place.now) (spots_of ps.items))) }
     ensures later { IfOk result (λ r. IfSome r (λ ps. (t : ListedStore) → chosen ≡ Some t →
-        DoesLater (owns_of against.now.owned.now) against.now.steps
-        against.now.pages.now.memory against.now.hart (listed against.now.list.now)
-        (spots_of ps.items) (spot_with (spot_of place.now) (stored_of t)))) }
+        CoverLater (owns_of against.now.owned.now) against.now.steps
+        against.now.memory.pages.now.memory against.now.hart (listed against.now.list.now)
+        (opening_of against.now.memory) (spot_with (spot_of place.now) (stored_of t))
+        (spots_of ps.items))) }
 {
     if place.count >= against.steps {
         return Ok(Some(Vec::new(alloc)));
     }
     let next = moves(
         alloc,
-        against.pages,
+        &against.memory,
         against.hart,
         against.list,
         against.owned,
@@ -158,7 +159,7 @@ fn moved(
     match next {
         Reached::AnyAnswer => Ok(None),
         Reached::Whole(successors) => {
-            let constant = stays_constant(against.pages, place);
+            let constant = stays_constant(against.memory.pages, place);
             let behind = places_behind(alloc, against, place, successors, constant, chosen)?;
             Ok(Some(behind))
         }
@@ -169,8 +170,8 @@ fn moved(
 fn new_offer(against: &Against<'_>, place: &Place) -> Option<ListedStore>
     ensures { place.now.next ≡ None → (s : Stored) →
         is_own (owns_of against.now.owned.now) against.now.hart s.address ≡ false →
-        Offers against.now.pages.now.memory against.now.hart (listed against.now.list.now)
-        (opening_bytes against.now.pages.now.memory) (state_of place.now.state) s →
+        Offers against.now.memory.pages.now.memory against.now.hart (listed against.now.list.now)
+        (opening_of against.now.memory) (state_of place.now.state) s →
         IsOffer result s }
 {
     match place.next {
@@ -204,11 +205,11 @@ fn next_if(pays: bool, next: Option<ListedStore>, offer: Option<ListedStore>) ->
 fn shared_offer(against: &Against<'_>, place: &Place) -> Option<ListedStore>
     ensures { (s : Stored) →
         is_own (owns_of against.now.owned.now) against.now.hart s.address ≡ false →
-        Offers against.now.pages.now.memory against.now.hart (listed against.now.list.now)
-        (opening_bytes against.now.pages.now.memory) (state_of place.now.state) s →
+        Offers against.now.memory.pages.now.memory against.now.hart (listed against.now.list.now)
+        (opening_of against.now.memory) (state_of place.now.state) s →
         IsOffer result s }
 {
-    let offer = offers(against.pages, against.hart, against.list, &place.state);
+    let offer = offers(&against.memory, against.hart, against.list, &place.state);
     let store = match offer {
         Some(store) => store,
         None => return None,
@@ -228,14 +229,14 @@ fn end_of(
 ) -> Result<Option<HartEnd>, OutOfMemory>
     ensures { IfOk result (λ e.
         (IsPaid against.now.hart (listed against.now.list.now) (place_of place.now) → IsTrue pays) →
-        TellEnds against.now.pages.now.memory against.now.hart (listed against.now.list.now)
+        TellEnds against.now.memory.pages.now.memory against.now.hart (listed against.now.list.now)
         (spot_of place.now) (end_found e)) }
 {
     stops_are_known();
     if !pays || !knows_registers(&place.state) || !is_settled(against.list, &place.state) {
         return Ok(None);
     }
-    let stop = match stop_of(alloc, against.pages, &place.state)? {
+    let stop = match stop_of(alloc, against.memory.pages, &place.state)? {
         Some(stop) => stop,
         None => return Ok(None),
     };

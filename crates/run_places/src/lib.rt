@@ -13,8 +13,13 @@ mod place;
 mod reaching;
 mod walking;
 
-pub use following::{Against, Omission};
+pub use ahead::stands_for;
+pub use constants::{is_open_call, stays_constant};
+pub use covering::Places;
+pub use following::{Against, Omission, strays};
 pub use hart_ends::HartEnd;
-pub use hart_states::ListedStore;
+pub use hart_states::{ListedStore, OpeningMemory};
+pub use owing::is_lost;
 pub use own_moves::OwnDoubleword;
-pub use walking::{HartWalk, Walk, walk_hart};
+pub use place::{Place, first_place, place_behind};
+pub use walking::{HartWalk, Walk, begun, walk_from};

@@ -23,7 +23,7 @@ pub(crate) fn owes_nothing(hart: u8, list: &[ListedStore], place: &Place) -> boo
 
 /// Whether a hart owes a store of the list that it can't do any more, behind a move from a place that wasn't lost: then the move was on one of
 /// the store's bytes.
-pub(crate) fn is_lost(hart: u8, list: &[ListedStore], before: &Place, place: &Place) -> bool
+pub fn is_lost(hart: u8, list: &[ListedStore], before: &Place, place: &Place) -> bool
     ensures { IsTrue result → IsLost hart (listed list.now) (place_of place.now) }
 {
     if owes_nothing(hart, list, place) {
@@ -49,6 +49,7 @@ fn is_raised(before: &[TouchedByte], index: usize, touched: usize) -> bool {
 }
 
 /// Whether a hart owes a store to a byte, and an operation on that stands behind the store's place in the list.
+#[tactic(auto, using(crate::proofs::Losing::lost_at))]
 fn is_past_due(hart: u8, list: &[ListedStore], place: &Place, address: u64) -> bool
     ensures { IsTrue result → IsLost hart (listed list.now) (place_of place.now) }
 {

@@ -4,11 +4,14 @@ ghost use Rattle.all_endings.specs.RunStates.{Move};
 ghost use Rattle.all_endings.specs.StoreLists.{Stored};
 ghost use Rattle.hart_states.specs.States.{state_of, stored_of};
 ghost use Rattle.own_moves.specs.Moves.{FollowsApart};
-ghost use Rattle.private_bytes.specs.PrivateWalks.{StandsForApart, constant_after, spot_after, spot_with};
+ghost use Rattle.private_bytes.specs.PrivateWalks.{constant_after, first_spot, spot_after, spot_with};
+ghost use Rattle.list_suffixes.specs.ApartRuns.{StandsForAlways};
 ghost use Rattle.run_places.specs.Spots.{is_among, spot_of};
 
-use hart_states::{ListedStore, RunState, Successor, is_sized};
+use hart_states::{ListedStore, RunState, Successor, is_sized, start};
+use hart_step::Hart;
 use pages::OutOfMemory;
+use private_bytes::lower_states_are_ahead;
 use std::alloc::Global;
 
 /// Where a run of a hart is.
@@ -26,6 +29,42 @@ pub struct Place {
     pub constant: bool,
 }
 
+impl Place {
+    ghost use Rattle.std.specs.Prelude.{◌≡◌, IfOk};
+    ghost use Rattle.run_places.specs.Spots.{spot_of};
+
+    /// The same place once more.
+    ///
+    /// # Errors
+    ///
+    /// `OutOfMemory` alone.
+    pub fn copy(&self, alloc: Global) -> Result<Place, OutOfMemory>
+        ensures { IfOk result (λ q. spot_of q ≡ spot_of self.now) }
+    {
+        Ok(Place {
+            state: copied(alloc, &self.state)?,
+            count: self.count,
+            paid: Vec::from_slice(alloc, &self.paid)?,
+            next: self.next,
+            constant: self.constant,
+        })
+    }
+}
+
+/// Where a hart's runs begin.
+pub fn first_place(alloc: Global, hart: &Hart) -> Place
+    ensures { StandsForAlways (spot_of result) (first_spot hart.now) }
+{
+    lower_states_are_ahead();
+    Place {
+        state: start(alloc, hart),
+        count: 0,
+        paid: Vec::new(alloc),
+        next: None,
+        constant: true,
+    }
+}
+
 /// Whether a store of the list is among those that were done.
 pub(crate) fn is_paid(paid: &[usize], store: usize) -> bool
     ensures { result ≡ is_among paid.now store }
@@ -33,8 +72,12 @@ pub(crate) fn is_paid(paid: &[usize], store: usize) -> bool
     paid.contains(&store)
 }
 
-/// The place behind a move, and whether the number in x17 is a constant there.
-pub(crate) fn place_behind(
+/// The place behind a move, and whether the number in x17 is a constant there. What it stands for it stands for whatever the list is.
+///
+/// # Errors
+///
+/// `OutOfMemory` alone.
+pub fn place_behind(
     alloc: Global,
     place: &Place,
     successor: Successor,
@@ -44,7 +87,7 @@ pub(crate) fn place_behind(
     ensures { IfOk result (λ q. (owns : ℕ → ℕ → Bool) (h : ℕ) (m : List Stored) (v : Move) →
         FollowsApart owns h m (state_of place.now.state) v successor →
         (IsTrue constant → constant_after place.now.constant v ≡ true) →
-        StandsForApart m (spot_of q) (spot_after owns h m (spot_of place.now) v)) }
+        StandsForAlways (spot_of q) (spot_after owns h m (spot_of place.now) v)) }
 {
     let Successor { state, done } = successor;
     Ok(Place {
@@ -87,8 +130,8 @@ pub(crate) fn place_with(
     place: &Place,
     store: ListedStore,
 ) -> Result<Place, OutOfMemory>
-    ensures { IfOk result (λ q. (m : List Stored) →
-        StandsForApart m (spot_of q) (spot_with (spot_of place.now) (stored_of store))) }
+    ensures { IfOk result (λ q.
+        StandsForAlways (spot_of q) (spot_with (spot_of place.now) (stored_of store))) }
 {
     is_itself(place);
     Ok(Place {
@@ -119,7 +162,7 @@ fn copied(alloc: Global, state: &RunState) -> Result<RunState, OutOfMemory>
 
 /// A place stands for itself.
 pub(crate) fn is_itself(place: &Place)
-    ensures { (m : List Stored) → StandsForApart m (spot_of place.now) (spot_of place.now) }
+    ensures { StandsForAlways (spot_of place.now) (spot_of place.now) }
 {
     is_sized(&place.state);
 }

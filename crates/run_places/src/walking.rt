@@ -1,23 +1,24 @@
 //! A walk through all places.
-ghost use Rattle.std.specs.Prelude.{List, Contains, IfOk, IsTrue, OnOk};
+ghost use Rattle.std.specs.Prelude.{◌≡◌, List, Contains, IfOk, IsTrue, OnOk};
 ghost use Rattle.all_endings.specs.StoreLists.{Stored};
 ghost use Rattle.all_endings.specs.Walking.{HartEnding};
 ghost use Rattle.hart_ends.specs.Told.{ends_told};
+ghost use Rattle.hart_states.specs.Opening.{opening_of};
 ghost use Rattle.hart_states.specs.States.{listed, stored_of};
 ghost use Rattle.own_moves.specs.Owned.{owns_of};
 ghost use Rattle.private_bytes.specs.PrivateWalks.{IsCoveredApart, Spot};
+ghost use Rattle.list_suffixes.specs.Serving.{Node};
+ghost use Rattle.list_suffixes.specs.SettledWalks.{AreAhead};
 ghost use Rattle.run_places.specs.Found.{end_found, offer_told};
 ghost use Rattle.run_places.specs.Spots.{Grows, spots_of};
-ghost use Rattle.run_places.specs.Walks.{IsWalkOf};
+ghost use Rattle.run_places.specs.Walks.{IsWalkFrom, IsWalkOn};
 
 use crate::covering::Places;
 use crate::following::{Against, Found, Omission, Outcome, follow};
 use crate::place::Place;
 use hart_ends::{HartEnd, has_end};
-use hart_states::{ListedStore, start};
-use hart_step::Hart;
+use hart_states::ListedStore;
 use pages::OutOfMemory;
-use private_bytes::lower_states_are_ahead;
 use std::alloc::Global;
 
 /// What a hart's runs against a list came to.
@@ -40,32 +41,56 @@ pub enum Walk {
     Unknown(Omission),
 }
 
-/// Walks through a hart's runs against a list, of at most so many instructions, by at most so many places.
+/// Walks through a hart's runs against a list, from some places on, of at most so many instructions, by at most so many places.
 ///
 /// # Errors
 ///
 /// `OutOfMemory` alone.
-pub fn walk_hart(
+pub fn walk_from(
     alloc: Global,
     against: &Against<'_>,
-    hart: &Hart,
+    begin: &[Place],
+    most: usize,
+) -> Result<Walk, OutOfMemory>
+    ensures { IfOk result (λ w. (n : Node) → n.stores ≡ listed against.now.list.now →
+        n.memory ≡ opening_of against.now.memory →
+        n.spots against.now.hart ≡ spots_of begin.now →
+        IsWalkFrom (owns_of against.now.owned.now) against.now.steps
+        against.now.memory.pages.now.memory against.now.harts against.now.hart n w) }
+{
+    let mut places = begun(alloc, begin)?;
+    walk_on(alloc, against, &mut places, most)
+}
+
+/// The places from which a walk goes on, but for those for which others stand.
+///
+/// # Errors
+///
+/// `OutOfMemory` alone.
+pub fn begun(alloc: Global, begin: &[Place]) -> Result<Places, OutOfMemory>
+    ensures { IfOk result (λ places. (p : Spot) → Contains (spots_of begin.now) p →
+        AreAhead (spots_of places.all.items) p) }
+{
+    let mut places = Places::new(alloc);
+    for place in begin {
+        places.add(place.copy(alloc)?)?;
+    }
+    Ok(places)
+}
+
+/// Follows places, and those that they lead to.
+fn walk_on(
+    alloc: Global,
+    against: &Against<'_>,
+    places: &mut Places,
     most: usize,
 ) -> Result<Walk, OutOfMemory>
     ensures { IfOk result (λ w.
-        IsWalkOf (owns_of against.now.owned.now) against.now.steps against.now.pages.now.memory
-        against.now.harts against.now.hart (listed against.now.list.now) hart.now w) }
+        IsWalkOn (owns_of against.now.owned.now) against.now.steps
+        against.now.memory.pages.now.memory against.now.harts against.now.hart
+        (listed against.now.list.now) (opening_of against.now.memory)
+        (spots_of places.old.all.items) w) }
 {
-    lower_states_are_ahead();
-    let mut places = Places::new(alloc);
-    let state = start(alloc, hart);
-    let first = Place {
-        state,
-        count: 0,
-        paid: Vec::new(alloc),
-        next: None,
-        constant: true,
-    };
-    places.add(first)?;
     let mut walk = HartWalk {
         offered: Vec::new(alloc),
         ends: Vec::new(alloc),
@@ -79,7 +104,7 @@ pub fn walk_hart(
         let outcome = follow(alloc, against, &places.all[done])?;
         match outcome {
             Outcome::Unknown(why) => return Ok(Walk::Unknown(why)),
-            Outcome::Whole(found) => take_in(&mut walk, &mut places, found)?,
+            Outcome::Whole(found) => take_in(&mut walk, places, found)?,
         }
     }
     Ok(Walk::Unknown(Omission::Places))

@@ -4,7 +4,6 @@ use Rattle.round_schedule.specs.Accesses.{address_of, bytes_of}
 use Rattle.rv64_decode.specs.declared.instruction.Instr.{Instr}
 use Rattle.hart_step.specs.Effect.{action}
 use Rattle.execution.specs.Executions.{no_access}
-use Rattle.all_endings.specs.Endings.{opening_bytes}
 use Rattle.all_endings.specs.Locality.{filled}
 use Rattle.run_bounds.specs.Operations.{operation_in}
 use Rattle.hart_states.specs.declared.choice.Choice.{Choice}
@@ -19,8 +18,8 @@ touches_none (Some c) p = ap (λ (y : Access). address_of y + bytes_of y) p
 
 pub returns : goal.returns
 returns c = record {
-  found = λ other h m v same doing. c.in_ok-choice.ensures.found m v same
-      (computes_so c.args.pages.now.memory h m (opening_bytes c.args.pages.now.memory) (state_of c.args.state.now) v c.destinations_are_written.ensures
+  found = λ other h m opening v same doing. c.in_ok-choice.ensures.found m v same
+      (computes_so c.args.pages.now.memory h m opening (state_of c.args.state.now) v c.destinations_are_written.ensures
       (λ e. other (sym same ∙ e))
       (λ before after mode e. c.in_default.not-Fence before after mode (sym same ∙ e))
       (ap (λ (j : Instr). operation_in (action j (filled c.args.state.now.registers) c.args.state.now.pc)) same ∙ c.requires.none)

@@ -3,7 +3,7 @@ use Rattle.std.proofs.lemmas.Bool.{cases_lt}
 use Rattle.std.proofs.lemmas.List.{length-map}
 use Rattle.memory_order.specs.declared.registers.Registers.{Registers}
 use Rattle.rule_checker.specs.CarriedBounds.{AreRegisters}
-use Rattle.all_endings.specs.Endings.{opening_bytes}
+use Rattle.hart_states.specs.Opening.{opening_of}
 use Rattle.hart_states.specs.States.{listed, state_of, stored_of}
 use Rattle.hart_moves.proofs.Early.{early_follows}
 use Rattle.hart_moves.proofs.Inverting.{time_within}
@@ -22,7 +22,7 @@ loop-time-preserved c = record {
   later = λ enough v same so late. elim c.if-is_enough.branch [
     | then-is_enough w ↦ let f = c.loop-time.invariant.later w.if-is_enough.true v same so late in (f.0, c.in_ok-add_successor-2.ensures.keeps f.0 f.1, f.2)
     | else-is_enough w ↦
-        early_follows c.early_loads_are_ahead.ensures c.args.hart (listed c.args.list.now) (opening_bytes c.args.pages.now.memory) (state_of c.args.state.now) c.args.coming.now c.placed_at-choice.result
+        early_follows c.early_loads_are_ahead.ensures c.args.hart (listed c.args.list.now) (opening_of c.args.memory.now) (state_of c.args.state.now) c.args.coming.now c.placed_at-choice.result
         c.add_successor-in-loop-time.new.found.items c.is_sized.ensures (subst (λ (u : Registers). AreRegisters u) c.used_registers.ensures c.are_registers.ensures) c.requires.coming
         (w.reads_seen-is_enough.ensures (sym w.is_enough-is ∙ enough)) c.placed_at-choice.ensures.is (λ u f. c.in_ok-add_successor-2.ensures.adds u f) v same so late
   ];
@@ -49,7 +49,7 @@ loop-time-preserved-then-is_again c =
 
 pub returns-then-is_enough-2-clause-does : goal.returns-then-is_enough-2-clause-does
 returns-then-is_enough-2-clause-does c = λ v same stands so place.
-    let w = time_within c.args.hart (listed c.args.list.now) (opening_bytes c.args.pages.now.memory) (state_of c.args.state.now) c.args.coming.now.operation v so place in
+    let w = time_within c.args.hart (listed c.args.list.now) (opening_of c.args.memory.now) (state_of c.args.state.now) c.args.coming.now.operation v so place in
     elim (cases_lt v.time c.loop-time.time) [
       | inl early ↦ c.loop-time.invariant.does v same stands so place early
       | inr late ↦ c.loop-time.invariant.later c.if-is_enough-2.true v same so (omega (arith, w, late, length-map c.args.list.now stored_of))
@@ -57,7 +57,7 @@ returns-then-is_enough-2-clause-does c = λ v same stands so place.
 
 pub returns-clause-does : goal.returns-clause-does
 returns-clause-does c = λ v same stands so place.
-    let w = time_within c.args.hart (listed c.args.list.now) (opening_bytes c.args.pages.now.memory) (state_of c.args.state.now) c.args.coming.now.operation v so place in
+    let w = time_within c.args.hart (listed c.args.list.now) (opening_of c.args.memory.now) (state_of c.args.state.now) c.args.coming.now.operation v so place in
     elim (cases_lt v.time c.loop-time.time) [
       | inl early ↦ let f = c.loop-time.invariant.does v same stands so place early in (f.0, c.in_ok-add_successor-3.ensures.keeps f.0 f.1, f.2)
       | inr late ↦ c.in_ok-add_successor-3.ensures.adds v (c.placed_at-later.ensures.found v same (omega (arith, w, late, length-map c.args.list.now stored_of)) stands so place)

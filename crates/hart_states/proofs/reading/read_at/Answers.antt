@@ -1,7 +1,7 @@
 use Rattle.std.proofs.Common.{◌≡◌, ℕ, ◌+◌, ◌<◌, Some, ap, ◌∙◌, refl, subst, arith}
 use Rattle.std.proofs.lemmas.List.{length-set}
 use Rattle.pages.specs.Memory.{byte_of, width_bytes}
-use Rattle.all_endings.specs.Endings.{opening_bytes}
+use Rattle.hart_states.specs.Opening.{opening_of}
 use Rattle.all_endings.specs.HartRuns.{IsRead}
 use Rattle.hart_states.specs.States.{listed}
 use Rattle.hart_states.specs.declared.reading.ByteRead.{ByteRead}
@@ -11,7 +11,7 @@ use Rattle.hart_states.proofs.reading.read_at.Goals as goal
 pub returns-in-None : goal.returns-in-None
 returns-in-None c = λ a v n span at gets.
     let m = listed c.args.list.now in
-    let opening = opening_bytes c.args.pages.now.memory in
+    let opening = opening_of c.args.memory.now in
     let k = c.loop-k.k in
     let l : k < width_bytes c.args.width = omega arith in
     let given = gets_given m opening a v c.args.address c.args.width n (Some n) refl gets in
@@ -26,7 +26,7 @@ loop-k-preserved c = record {
   many = length-set c.loop-k.sources c.loop-k.k c.in-Some.read.source ∙ c.loop-k.invariant.many;
   read = λ a v n span at gets.
       let m = listed c.args.list.now in
-      let opening = opening_bytes c.args.pages.now.memory in
+      let opening = opening_of c.args.memory.now in
       let k = c.loop-k.k in
       let l : k < width_bytes c.args.width = omega arith in
       let few = few_bytes c.args.width in
@@ -42,7 +42,7 @@ loop-k-preserved c = record {
 
 pub returns : goal.returns
 returns c = λ a v n span at gets.
-    let given = gets_given (listed c.args.list.now) (opening_bytes c.args.pages.now.memory) a v c.args.address c.args.width n (Some n) refl gets in
+    let given = gets_given (listed c.args.list.now) (opening_of c.args.memory.now) a v c.args.address c.args.width n (Some n) refl gets in
     let read = c.loop-k.invariant.read a v n span at gets in
     record {
       reading = record { number = c.number_of.result; sources = c.loop-k.sources };

@@ -1,7 +1,7 @@
 use Rattle.std.proofs.Common.{◌≡◌, inl, inr}
 use Rattle.run_bounds.specs.declared.operation.Kind.{Kind}
 use Rattle.run_bounds.specs.declared.operation.Kind.TheVariants.{Load, Store}
-use Rattle.all_endings.specs.Endings.{opening_bytes}
+use Rattle.hart_states.specs.Opening.{opening_of}
 use Rattle.hart_states.specs.States.{listed, state_of}
 use Rattle.hart_moves.proofs.Lower.{contains_last}
 use Rattle.own_moves.proofs.Recalled.{recall_follows}
@@ -14,7 +14,7 @@ pub returns-in_ok-add_successor-in-Load : goal.returns-in_ok-add_successor-in-Lo
 returns-in_ok-add_successor-in-Load c = λ v same does stands. elim does [
   | inl so ↦
       let f = c.in_ok-add_successor-in-Load.ensures.adds v (c.recall-choice.ensures.found v same so stands) in
-      (f.0, f.1, recall_follows c.args.hart (listed c.args.list.now) (opening_bytes c.args.pages.now.memory) (state_of c.args.state.now) c.args.coming.now.operation v f.0 so f.2)
+      (f.0, f.1, recall_follows c.args.hart (listed c.args.list.now) (opening_of c.args.memory.now) (state_of c.args.state.now) c.args.coming.now.operation v f.0 so f.2)
   | inr so ↦ absurd (not_both c.args.coming.now.operation.kind c.in-Load.is so.kind)
 ]
 

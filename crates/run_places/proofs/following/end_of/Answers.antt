@@ -19,11 +19,11 @@ same_end s t o p e f = cc
 
 pub returns-in-None : goal.returns-in-None
 returns-in-None c = λ paid e at.
-    absurd (none_is_none (sym c.in-None.is ∙ (c.in_ok-stop.ensures ∙ c.stops_are_known.ensures c.args.against.now.pages.now.memory (state_of c.args.place.now.state) e.stop at.halts at.knows)))
+    absurd (none_is_none (sym c.in-None.is ∙ (c.in_ok-stop.ensures ∙ c.stops_are_known.ensures c.args.against.now.memory.pages.now.memory (state_of c.args.place.now.state) e.stop at.halts at.knows)))
 
 pub returns-in-Some-2 : goal.returns-in-Some-2
 returns-in-Some-2 c = λ paid e at.
     let stopped = same_stop c.in-Some.stop e.stop
-    (sym c.in-Some.is ∙ (c.in_ok-stop.ensures ∙ c.stops_are_known.ensures c.args.against.now.pages.now.memory (state_of c.args.place.now.state) e.stop at.halts at.knows)) in
+    (sym c.in-Some.is ∙ (c.in_ok-stop.ensures ∙ c.stops_are_known.ensures c.args.against.now.memory.pages.now.memory (state_of c.args.place.now.state) e.stop at.halts at.knows)) in
     let told = subst (λ (r : Option (Vec ℕ)). IsSomeAnd r (λ (v : Vec ℕ). v.items ≡ e.output)) c.in-Some-2.is (c.in_ok-output.ensures e.output (c.deref.ensures.value ∙ at.puts)) in
     (0, omega arith, same_end c.in-Some.stop e.stop c.in-Some-2.output.items e.output stopped told)

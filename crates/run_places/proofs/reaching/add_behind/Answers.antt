@@ -11,7 +11,7 @@ returns-then-is_lost-clause-moves c = λ owns v f constant.
     let h = c.args.against.now.hart in
     let m = listed c.args.against.now.list.now in
     let p = spot_of c.args.place.now in
-    inr (lost_by h m (spot_of c.in_ok-reached.reached) (spot_after owns h m p v) (c.in_ok-reached.ensures owns h m v f constant) (c.is_lost.ensures c.if-is_lost.true))
+    inr (lost_by h m (spot_of c.in_ok-reached.reached) (spot_after owns h m p v) (c.in_ok-reached.ensures owns h m v f constant m) (c.is_lost.ensures c.if-is_lost.true))
 
 pub returns-then-is_lost-clause-later : goal.returns-then-is_lost-clause-later
 returns-then-is_lost-clause-later c = λ owns v t f constant chosen done.
@@ -19,7 +19,7 @@ returns-then-is_lost-clause-later c = λ owns v t f constant chosen done.
     let m = listed c.args.against.now.list.now in
     let p = spot_of c.args.place.now in
     inr (lost_with owns h m v p (stored_of t)
-    (lost_by h m (spot_of c.in_ok-reached.reached) (spot_after owns h m p v) (c.in_ok-reached.ensures owns h m v f constant) (c.is_lost.ensures c.if-is_lost.true)))
+    (lost_by h m (spot_of c.in_ok-reached.reached) (spot_after owns h m p v) (c.in_ok-reached.ensures owns h m v f constant m) (c.is_lost.ensures c.if-is_lost.true)))
 
 pub returns-clause-grows : goal.returns-clause-grows
 returns-clause-grows c =
@@ -34,7 +34,7 @@ returns-clause-moves c = λ owns v f constant.
     let h = c.args.against.now.hart in
     let m = listed c.args.against.now.list.now in
     let reached = c.in_ok-reached.reached in
-    inl (spot_of reached, came c.add_chosen.new.behind.items c.push.new.self.items reached c.in_ok-push.ensures.items, c.in_ok-reached.ensures owns h m v f constant)
+    inl (spot_of reached, came c.add_chosen.new.behind.items c.push.new.self.items reached c.in_ok-push.ensures.items, c.in_ok-reached.ensures owns h m v f constant m)
 
 pub returns-clause-later : goal.returns-clause-later
 returns-clause-later c = λ owns v t f constant chosen done.
@@ -45,7 +45,7 @@ returns-clause-later c = λ owns v t f constant chosen done.
     let after = c.push.new.self.items in
     let reached = c.in_ok-reached.reached in
     let k = c.in_ok-add_chosen.ensures.covered m t (c.only_if.ensures (c.is_later-later.ensures done) ∙ chosen) in
-    let with = stands_with owns h m v p (stored_of t) (spot_of reached) (c.in_ok-reached.ensures owns h m v f constant) in
+    let with = stands_with owns h m v p (stored_of t) (spot_of reached) (c.in_ok-reached.ensures owns h m v f constant m) in
     inl (
       k.0,
       stays mid after k.0 (grows_by mid after reached c.in_ok-push.ensures.items) k.1,

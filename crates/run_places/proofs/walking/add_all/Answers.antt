@@ -20,7 +20,7 @@ loop-place-preserved c =
           (subst (λ (qs : List Spot). Contains qs at.0) (map-append spot_of yielded (place ∷ [])) at.1)) [
             | inl before ↦ covered_stays m old new p kept.grows (i.covered m p (at.0, before, at.2))
             | inr now ↦
-                let k = kept.covered m in
-                (k.0, k.1, stands_on m k.0 (spot_of place) p k.2 (subst (λ (q : Spot). StandsForApart m q p) (sym now) at.2))
+                let k = kept.covered in
+                (k.0, k.1, stands_on m k.0 (spot_of place) p (k.2 m) (subst (λ (q : Spot). StandsForApart m q p) (sym now) at.2))
           ];
     }
