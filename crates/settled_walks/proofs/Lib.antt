@@ -1,0 +1,7 @@
+mod Counted
+mod KnownMoves
+mod KnownStates
+mod LostPlaces
+mod SettledSpots
+mod SinceBytes
+mod Sooner

@@ -1,0 +1,3 @@
+pub mod SettledPlaces
+pub mod Since
+pub mod Within
