@@ -6,21 +6,26 @@ ghost use Rattle.hart_step.specs.Console.{output_room};
 ghost use Rattle.hart_step.specs.declared.hart.Hart.{Hart as Begun};
 ghost use Rattle.all_endings.specs.Endings.{Ending};
 ghost use Rattle.all_endings.specs.Offering.{AreFresh};
-ghost use Rattle.all_endings.specs.Walking.{seen_after};
 ghost use Rattle.hart_ends.specs.Told.{bytes_told, table_told};
-ghost use Rattle.hart_states.specs.States.{listed};
-ghost use Rattle.private_bytes.specs.PrivateWalks.{IsLookedThroughApart};
-ghost use Rattle.all_checker.specs.Nodes.{AreWalked, NodesGrow, lists_told};
+ghost use Rattle.own_moves.specs.Owned.{owns_of};
+ghost use Rattle.private_bytes.specs.PrivateWalks.{AreNobodys};
+ghost use Rattle.list_suffixes.specs.NodeWalks.{IsLookedThroughFrom, seen_from};
+ghost use Rattle.list_suffixes.specs.Serving.{IsServed, Node};
+ghost use Rattle.ending_nodes.specs.KeptNodes.{Grow, node_told, nodes_told};
+ghost use Rattle.ending_nodes.specs.Raising.{AreRight};
+ghost use Rattle.all_checker.specs.Nodes.{AreWalked};
 ghost use Rattle.all_checker.specs.Tables.{IsFoundOf};
 
 use crate::looking::{Look, NodeWalks, add_nodes, look_through};
-use crate::memory::seen_bytes;
+use crate::mapping::right_maps;
+use crate::memory::seen_at;
 use crate::owning::{unseen, without};
+use ending_nodes::{MappedProgram, Node as KeptNode, Nodes, first_node};
 use hart_ends::{TableEnding, add_endings};
 use hart_step::Hart;
+use list_suffixes::node_tables_are_whole;
 use pages::{OutOfMemory, Pages, Range};
-use private_bytes::private_tables_are_whole;
-use run_places::{ListedStore, Omission, OwnDoubleword};
+use run_places::{Omission, OwnDoubleword};
 use std::alloc::Global;
 
 /// How far is looked.
@@ -28,9 +33,9 @@ use std::alloc::Global;
 pub struct Bounds {
     /// So many instructions of each hart are followed. What is said holds of executions in which no hart does more.
     pub steps: u64,
-    /// So many lists of stores to shared bytes at most.
+    /// So many nodes at most: memory, the stores since then, and where the harts' runs go on from there.
     pub nodes: usize,
-    /// So many places at most of the harts' runs against all lists together.
+    /// So many places at most of the harts' runs from all nodes together. By so many at most stores are put behind a node, too.
     pub places: usize,
 }
 
@@ -39,17 +44,17 @@ pub struct Bounds {
 pub enum Reason {
     /// The console has no room for a byte of each instruction.
     Room,
-    /// There are more lists than were to be looked through.
+    /// There are more nodes than were to be looked through.
     Nodes,
     /// Time is over.
     Time,
-    /// A hart's runs against a list aren't known.
+    /// A hart's runs from a node aren't known.
     Runs(Omission),
 }
 
-/// Who looks on while lists of stores are looked through.
+/// Who looks on while nodes are looked through.
 pub trait ListsObserver {
-    /// Looks at how many lists were looked through, and says whether there is time to go on.
+    /// Looks at how many nodes were looked through, and says whether there is time to go on.
     fn look(&mut self, lists: u64) -> bool;
 }
 
@@ -125,61 +130,104 @@ fn look_at_all<O: ListsObserver>(
     ensures { IfOk result (λ f.
         IsFoundOf bounds.steps pages.now.memory harts.now see.now f) }
 {
-    private_tables_are_whole();
     let owned = unseen(alloc, hint, see)?;
-    let mut nodes = first_nodes(alloc)?;
+    let maps = right_maps(alloc, pages, &owned, harts)?;
+    let program = MappedProgram {
+        pages,
+        owned: &owned,
+        maps: &maps,
+        steps: bounds.steps,
+        most: bounds.places,
+    };
+    look_at_nodes(alloc, &program, harts, see, bounds, observer)
+}
+
+/// All endings of a program whose code is mapped.
+fn look_at_nodes<O: ListsObserver>(
+    alloc: Global,
+    program: &MappedProgram<'_>,
+    harts: &[Hart],
+    see: &[Range],
+    bounds: Bounds,
+    observer: &mut O,
+) -> Result<Found, OutOfMemory>
+    requires few { length program.now.maps.now ≤ 64 }
+    requires right { AreRight (owns_of program.now.owned.now) program.now.pages.now.memory
+        program.now.maps.now }
+    requires harts { length harts.now ≡ length program.now.maps.now }
+    requires fresh { AreFresh harts.now }
+    requires nobodys { AreNobodys (owns_of program.now.owned.now) (length harts.now) see.now }
+    requires ranges { Each (λ r. r.start + r.len < 2 ^ 64) see.now }
+    requires room { program.now.steps * length harts.now ≤ output_room }
+    ensures { IfOk result (λ f.
+        IsFoundOf program.now.steps program.now.pages.now.memory harts.now see.now f) }
+{
+    node_tables_are_whole();
+    let mut nodes = first_nodes(alloc, harts)?;
     let mut table = Vec::new(alloc);
     let mut left = bounds.places;
     for done in 0..bounds.nodes {
-        if done >= nodes.len() {
+        if done >= nodes.all.len() {
             return Ok(Found::All(table));
         }
         if !observer.look(done as u64) {
             return Ok(Found::Unknown(Reason::Time));
         }
-        let list = Vec::from_slice(alloc, &nodes[done])?;
-        match look_through(alloc, pages, harts, &owned, &list, bounds.steps, left)? {
+        let node = nodes.all[done].copy(alloc)?;
+        match look_through(alloc, program, &node, left)? {
             Look::Unknown(why) => return Ok(Found::Unknown(Reason::Runs(why))),
             Look::Whole(walks) => {
                 left = left.saturating_sub(walks.places);
-                let seen = seen_bytes(alloc, pages, see, &list)?;
-                take_in(alloc, &mut nodes, &mut table, &list, &walks, &seen)?;
+                let seen = seen_at(alloc, program.pages, see, &node)?;
+                take_in(alloc, program, &mut nodes, &mut table, &node, &walks, &seen)?;
             }
         }
     }
     Ok(Found::Unknown(Reason::Nodes))
 }
 
-/// The empty list alone.
-fn first_nodes(alloc: Global) -> Result<Vec<Vec<ListedStore>>, OutOfMemory>
-    ensures { IfOk result (λ ns. Contains (lists_told ns.items) []) }
+/// The node where harts begin alone.
+fn first_nodes(alloc: Global, harts: &[Hart]) -> Result<Nodes, OutOfMemory>
+    ensures { IfOk result (λ ns. AreFresh harts.now →
+        (owns : ℕ → ℕ → Bool) (k : ℕ) (image : Memory) →
+        (n : Node) × Contains (nodes_told image ns.all.items) n ×
+        IsServed owns k image harts.now n []) }
 {
-    let mut nodes = Vec::new(alloc);
-    nodes.push(Vec::new(alloc))?;
+    let mut nodes = Nodes::new(alloc);
+    let first = first_node(alloc, harts)?;
+    nodes.add(first)?;
     Ok(nodes)
 }
 
-/// Keeps what follows a list, and its endings over the bytes that are seen.
+/// Keeps what follows a node, and its endings over the bytes that are seen.
 fn take_in(
     alloc: Global,
-    nodes: &mut Vec<Vec<ListedStore>>,
+    program: &MappedProgram<'_>,
+    nodes: &mut Nodes,
     table: &mut Vec<TableEnding>,
-    list: &[ListedStore],
+    node: &KeptNode,
     walks: &NodeWalks,
     seen: &[Vec<u8>],
 ) -> Result<(), OutOfMemory>
-    ensures grows { OnOk result (NodesGrow nodes.old.items nodes.new.items) }
+    requires few { length program.now.maps.now ≤ 64 }
+    requires right { AreRight (owns_of program.now.owned.now) program.now.pages.now.memory
+        program.now.maps.now }
+    ensures grow { OnOk result (Grow nodes.old.all.items nodes.new.all.items) }
     ensures kept { OnOk result ((e : Ending) → Contains (table_told table.old.items) e →
         Contains (table_told table.new.items) e) }
-    ensures looked { OnOk result ((owns : ℕ → ℕ → Bool) (k : ℕ) (image : Memory)
-        (hs : List Begun) (see : List Seen) →
-        AreWalked owns k image hs (listed list.now) walks.now →
-        bytes_told seen.now ≡ seen_after image see (listed list.now) →
-        IsLookedThroughApart owns k image hs see (lists_told nodes.new.items)
-        (table_told table.new.items) (listed list.now)) }
+    ensures looked { OnOk result ((hs : List Begun) (see : List Seen) →
+        length hs ≡ length program.now.maps.now → AreFresh hs →
+        AreWalked (owns_of program.now.owned.now) program.now.steps
+        program.now.pages.now.memory (length program.now.maps.now)
+        (node_told program.now.pages.now.memory node.now) walks.now →
+        bytes_told seen.now ≡ seen_from see (node_told program.now.pages.now.memory node.now) →
+        IsLookedThroughFrom (owns_of program.now.owned.now) program.now.steps
+        program.now.pages.now.memory hs see
+        (nodes_told program.now.pages.now.memory nodes.new.all.items)
+        (table_told table.new.items) (node_told program.now.pages.now.memory node.now)) }
 {
     add_endings(alloc, table, &walks.ways, seen)?;
-    add_nodes(alloc, nodes, list, &walks.offered)?;
+    add_nodes(alloc, program, nodes, node, &walks.offered)?;
     Ok(())
 }
 

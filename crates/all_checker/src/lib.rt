@@ -1,9 +1,10 @@
-//! A proved table of all endings of a guest under RVWMO: all lists of stores to shared bytes in the order of global memory are looked
-//! through, each hart alone against each.
+//! A proved table of all endings of a guest under RVWMO: nodes are looked through, from where harts begin, by each store to shared bytes that may
+//! come next. Each hart's runs are walked alone against a node's stores.
 #![tactic(auto)]
 
 mod finding;
 mod looking;
+mod mapping;
 mod memory;
 mod owning;
 

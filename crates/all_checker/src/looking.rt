@@ -1,17 +1,21 @@
-//! What all harts may do against one list of stores.
-ghost use Rattle.std.specs.Prelude.{◌≡◌, ◌≤◌, ◌∷◌, ◌++◌, [], ℕ, List, length, slice_index_or, Contains, IfOk, OnOk};
+//! What all harts may do from one node on.
+ghost use Rattle.std.specs.Prelude.{◌≡◌, ◌<◌, ◌≤◌, [], ℕ, List, length, slice_index_or, Contains, IfOk, OnOk};
 ghost use Rattle.all_endings.specs.StoreLists.{Stored};
 ghost use Rattle.hart_states.specs.States.{listed, stored_of};
 ghost use Rattle.own_moves.specs.Owned.{owns_of};
-ghost use Rattle.all_checker.specs.Nodes.{IsLookOf, NodesGrow, lists_told};
+ghost use Rattle.run_places.specs.Walks.{IsWalkFrom};
+ghost use Rattle.ending_nodes.specs.KeptNodes.{Grow, node_told};
+ghost use Rattle.ending_nodes.specs.Raising.{AreRight};
+ghost use Rattle.all_checker.specs.Nodes.{HaveNext, IsLookOf, lists_told};
 
+use ending_nodes::{MappedProgram, Node, Nodes, next_node};
 use hart_ends::HartEnd;
-use hart_step::Hart;
-use pages::{OutOfMemory, Pages};
-use run_places::{Against, HartWalk, ListedStore, Omission, OwnDoubleword, Walk, walk_hart};
+use hart_states::{ListedStore, OpeningMemory};
+use pages::OutOfMemory;
+use run_places::{Against, HartWalk, Omission, Walk, walk_from};
 use std::alloc::Global;
 
-/// What all harts may do against a list.
+/// What all harts may do from a node on.
 #[derive(Drop)]
 pub struct NodeWalks {
     /// The stores of each hart that may come next.
@@ -22,7 +26,7 @@ pub struct NodeWalks {
     pub places: usize,
 }
 
-/// What is said of a list.
+/// What is said of a node.
 #[derive(Drop)]
 pub enum Look {
     /// All harts were walked.
@@ -31,41 +35,30 @@ pub enum Look {
     Unknown(Omission),
 }
 
-/// Walks through the runs of all harts against a list of stores to nobody's own bytes, of at most so many instructions each, by at most so
-/// many places.
+/// Walks through the runs of all harts from a node on, by at most so many places.
 ///
 /// # Errors
 ///
 /// `OutOfMemory` alone.
 pub(crate) fn look_through(
     alloc: Global,
-    pages: &Pages,
-    harts: &[Hart],
-    owned: &[OwnDoubleword],
-    list: &[ListedStore],
-    steps: u64,
+    program: &MappedProgram<'_>,
+    node: &Node,
     most: usize,
 ) -> Result<Look, OutOfMemory>
-    requires { length harts.now ≤ 64 }
+    requires { length program.now.maps.now ≤ 64 }
     ensures { IfOk result (λ l.
-        IsLookOf (owns_of owned.now) steps pages.now.memory harts.now (listed list.now) l) }
+        IsLookOf (owns_of program.now.owned.now) program.now.steps program.now.pages.now.memory
+        (length program.now.maps.now) (node_told program.now.pages.now.memory node.now) l) }
 {
     let mut walks = NodeWalks {
         offered: Vec::new(alloc),
         ways: Vec::new(alloc),
         places: 0,
     };
-    for hart in 0..harts.len() {
-        let against = Against {
-            pages,
-            hart: hart as u8,
-            harts: harts.len() as u8,
-            owned,
-            list,
-            steps,
-        };
+    for hart in 0..program.maps.len() {
         let left = most.saturating_sub(walks.places);
-        match walk_hart(alloc, &against, &harts[hart], left)? {
+        match walk_hart(alloc, program, node, hart, left)? {
             Walk::Unknown(why) => return Ok(Look::Unknown(why)),
             Walk::Whole(walk) => {
                 let HartWalk {
@@ -82,55 +75,104 @@ pub(crate) fn look_through(
     Ok(Look::Whole(walks))
 }
 
-/// Adds the lists that a list can be followed by.
+/// Walks through a hart's runs from a node on.
+fn walk_hart(
+    alloc: Global,
+    program: &MappedProgram<'_>,
+    node: &Node,
+    hart: usize,
+    most: usize,
+) -> Result<Walk, OutOfMemory>
+    requires few { length program.now.maps.now ≤ 64 }
+    requires there { hart < length program.now.maps.now }
+    ensures { IfOk result (λ w.
+        IsWalkFrom (owns_of program.now.owned.now) program.now.steps program.now.pages.now.memory
+        (length program.now.maps.now) hart (node_told program.now.pages.now.memory node.now) w) }
+{
+    let against = Against {
+        memory: OpeningMemory {
+            pages: program.pages,
+            behind: &node.behind,
+        },
+        hart: hart as u8,
+        harts: program.maps.len() as u8,
+        owned: program.owned,
+        list: &node.list,
+        steps: program.steps,
+    };
+    let walk = walk_from(alloc, &against, node.places_of(hart), most)?;
+    Ok(walk)
+}
+
+/// Adds the nodes to which the stores lead that may come next.
 ///
 /// # Errors
 ///
 /// `OutOfMemory` alone.
 pub(crate) fn add_nodes(
     alloc: Global,
-    nodes: &mut Vec<Vec<ListedStore>>,
-    list: &[ListedStore],
+    program: &MappedProgram<'_>,
+    nodes: &mut Nodes,
+    node: &Node,
     offered: &[Vec<ListedStore>],
 ) -> Result<(), OutOfMemory>
-    ensures grows { OnOk result (NodesGrow nodes.old.items nodes.new.items) }
+    requires few { length program.now.maps.now ≤ 64 }
+    requires right { AreRight (owns_of program.now.owned.now) program.now.pages.now.memory
+        program.now.maps.now }
+    ensures grow { OnOk result (Grow nodes.old.all.items nodes.new.all.items) }
     ensures added { OnOk result ((h : ℕ) (s : Stored) →
         Contains (slice_index_or (lists_told offered.now) h []) s →
-        Contains (lists_told nodes.new.items) (listed list.now ++ s ∷ [])) }
+        HaveNext (owns_of program.now.owned.now) program.now.steps
+        program.now.pages.now.memory (length program.now.maps.now) nodes.new.all.items node.now
+        s) }
 {
     for stores in offered {
-        add_children(alloc, nodes, list, stores)?;
+        add_next(alloc, program, nodes, node, stores)?;
     }
     Ok(())
 }
 
-/// Adds the lists with each of some stores behind a list.
-fn add_children(
+/// Adds the nodes to which some stores lead.
+fn add_next(
     alloc: Global,
-    nodes: &mut Vec<Vec<ListedStore>>,
-    list: &[ListedStore],
+    program: &MappedProgram<'_>,
+    nodes: &mut Nodes,
+    node: &Node,
     stores: &[ListedStore],
 ) -> Result<(), OutOfMemory>
-    ensures grows { OnOk result (NodesGrow nodes.old.items nodes.new.items) }
+    requires few { length program.now.maps.now ≤ 64 }
+    requires right { AreRight (owns_of program.now.owned.now) program.now.pages.now.memory
+        program.now.maps.now }
+    ensures grow { OnOk result (Grow nodes.old.all.items nodes.new.all.items) }
     ensures added { OnOk result ((s : Stored) → Contains (listed stores.now) s →
-        Contains (lists_told nodes.new.items) (listed list.now ++ s ∷ [])) }
+        HaveNext (owns_of program.now.owned.now) program.now.steps
+        program.now.pages.now.memory (length program.now.maps.now) nodes.new.all.items node.now
+        s) }
 {
     for store in stores {
-        let longer = with_store(alloc, list, *store)?;
-        nodes.push(longer)?;
+        add_one(alloc, program, nodes, node, *store)?;
     }
     Ok(())
 }
 
-/// A list, and one store more.
-fn with_store(
+/// Adds the node to which a store leads.
+fn add_one(
     alloc: Global,
-    list: &[ListedStore],
+    program: &MappedProgram<'_>,
+    nodes: &mut Nodes,
+    node: &Node,
     store: ListedStore,
-) -> Result<Vec<ListedStore>, OutOfMemory>
-    ensures { IfOk result (λ l. listed l.items ≡ listed list.now ++ stored_of store ∷ []) }
+) -> Result<(), OutOfMemory>
+    requires few { length program.now.maps.now ≤ 64 }
+    requires right { AreRight (owns_of program.now.owned.now) program.now.pages.now.memory
+        program.now.maps.now }
+    ensures grow { OnOk result (Grow nodes.old.all.items nodes.new.all.items) }
+    ensures added { OnOk result (
+        HaveNext (owns_of program.now.owned.now) program.now.steps
+        program.now.pages.now.memory (length program.now.maps.now) nodes.new.all.items node.now
+        (stored_of store)) }
 {
-    let mut longer = Vec::from_slice(alloc, list)?;
-    longer.push(store)?;
-    Ok(longer)
+    let next = next_node(alloc, program, node, store)?;
+    nodes.add(next)?;
+    Ok(())
 }

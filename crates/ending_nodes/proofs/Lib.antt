@@ -1,0 +1,5 @@
+pub mod KeptNodes
+pub mod Memories
+pub mod Raised
+pub mod Same
+pub mod Told

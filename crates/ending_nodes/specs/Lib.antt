@@ -1,0 +1,3 @@
+pub mod KeptNodes
+pub mod Memories
+pub mod Raising
