@@ -87,34 +87,34 @@ total_is W8 n l = omega (arith, l)
 
 -- ---- own stores
 
-pub own_both : (f : ℕ → ℕ) (b : Bool) (p q : Option OwnByte) (o : OwnByte) → OwnMirrors f b p q → q ≡ Some o →
-    (u : OwnByte) × (p ≡ Some u) × (b ≡ false → u.place ≡ f o.place) × (b ≡ false → u.atomic ≡ o.atomic) × Tells o.byte u.byte × (u.needs ≤ f o.needs)
-own_both f b _ _ o mirrors-none e = absurd (cc)
-own_both f b _ _ o (mirrors-both u p place atomic byte needs) e =
+pub own_both : (f g : ℕ → ℕ) (b : Bool) (p q : Option OwnByte) (o : OwnByte) → OwnMirrors f g b p q → q ≡ Some o →
+    (u : OwnByte) × (p ≡ Some u) × (b ≡ false → u.place ≡ g o.place) × (b ≡ false → u.atomic ≡ o.atomic) × Tells o.byte u.byte × (u.needs ≤ f o.needs)
+own_both f g b _ _ o mirrors-none e = absurd (cc)
+own_both f g b _ _ o (mirrors-both u p place atomic byte needs) e =
     let s : p ≡ o = cc in (
       u,
       refl,
-      λ z. place z ∙ ap (λ (y : OwnByte). f y.place) s,
+      λ z. place z ∙ ap (λ (y : OwnByte). g y.place) s,
       λ z. atomic z ∙ ap (λ (y : OwnByte). y.atomic) s,
       λ n is. byte n (ap (λ (y : OwnByte). y.byte) s ∙ is),
       (let l = needs in let n = ap (λ (y : OwnByte). f y.needs) s in omega (arith, l, n)),
     )
 
-pub bytes_tell : (f : ℕ → ℕ) (b : Bool) (opening : ℕ) (p q : Option OwnByte) → OwnMirrors f b p q → Tells (left_by opening q) (left_by opening p)
-bytes_tell f b opening _ _ mirrors-none = λ n is. is
-bytes_tell f b opening _ _ (mirrors-both u p place atomic byte needs) = byte
+pub bytes_tell : (f g : ℕ → ℕ) (b : Bool) (opening : ℕ) (p q : Option OwnByte) → OwnMirrors f g b p q → Tells (left_by opening q) (left_by opening p)
+bytes_tell f g b opening _ _ mirrors-none = λ n is. is
+bytes_tell f g b opening _ _ (mirrors-both u p place atomic byte needs) = byte
 
-pub needs_below : (f : ℕ → ℕ) (b : Bool) (p q : Option OwnByte) → OwnMirrors f b p q → needs_of p ≤ f (needs_of q)
-needs_below f b _ _ mirrors-none = omega arith
-needs_below f b _ _ (mirrors-both u p place atomic byte needs) = needs
+pub needs_below : (f g : ℕ → ℕ) (b : Bool) (p q : Option OwnByte) → OwnMirrors f g b p q → needs_of p ≤ f (needs_of q)
+needs_below f g b _ _ mirrors-none = omega arith
+needs_below f g b _ _ (mirrors-both u p place atomic byte needs) = needs
 
-pub past_below : (f : ℕ → ℕ) → Rises f → (p q : Option OwnByte) (t : ℕ) → OwnMirrors f false p q → IsPast q t → IsPast p (f t)
-past_below f up _ _ t mirrors-none past = past
-past_below f up _ _ t (mirrors-both u p place atomic byte needs) past = let e = place refl in let l = up p.place t past in omega (arith, e, l)
+pub past_below : (f g : ℕ → ℕ) → Rises f → ((n : ℕ) → g n ≤ f n) → (p q : Option OwnByte) (t : ℕ) → OwnMirrors f g false p q → IsPast q t → IsPast p (f t)
+past_below f g up lower _ _ t mirrors-none past = past
+past_below f g up lower _ _ t (mirrors-both u p place atomic byte needs) past = let e = place refl in let l = up p.place t past in let g = lower p.place in omega (arith, e, l, g)
 
-pub unplaced : (f : ℕ → ℕ) (p q : Option OwnByte) → OwnMirrors f true p q → OwnMirrors f true (option_map without_place p) q
-unplaced f _ _ mirrors-none = mirrors-none
-unplaced f _ _ (mirrors-both u p place atomic byte needs) = mirrors-both (without_place u) p (λ e. absurd (cc)) atomic byte needs
+pub unplaced : (f g : ℕ → ℕ) (p q : Option OwnByte) → OwnMirrors f g true p q → OwnMirrors f g true (option_map without_place p) q
+unplaced f g _ _ mirrors-none = mirrors-none
+unplaced f g _ _ (mirrors-both u p place atomic byte needs) = mirrors-both (without_place u) p (λ e. absurd (cc)) atomic byte needs
 
 -- ---- one move
 
@@ -170,7 +170,7 @@ module _ (owns : ℕ → ℕ → Bool) (image : Memory) (harts h : ℕ) (m : Lis
   nobodys : (address : ℕ) (w : Width) → IsInOne address (width_bytes w) → Nobodys address → (x : ℕ) → in_range address (width_bytes w) x ≡ true → Nobodys x
   nobodys address w one none x within j l = ap (owns j) (one_doubleword address (width_bytes w) x one within) ∙ none j l
 
-  module _ (a c : RunState) (v : Move) (vs : List Move) (mirrors : Mirrors owns h f a c) (keeps_own : (x : ℕ) → Kept image h m opening x vs c)
+  module _ (a c : RunState) (v : Move) (vs : List Move) (mirrors : Mirrors owns h f (λ x. f) a c) (keeps_own : (x : ℕ) → Kept image h m opening x vs c)
       (apart : KeepsToItself owns image harts h a) (at : decoded image c.pc ≡ Some v.instruction) where
     refines : Refines c.registers (filled a.registers)
     refines r n e = filled_refines a.registers r n (mirrors.registers r n e)
@@ -216,7 +216,7 @@ module _ (owns : ℕ → ℕ → Bool) (image : Memory) (harts h : ℕ) (m : Lis
     -- a byte of nobody's own
     read_apart : (t x source byte : ℕ) → t ≤ length m → Nobodys x → IsRead m opening c t x source byte → IsRead shared opening a (f t) x (f source) byte
     read_apart t x _ _ l none (forwarded o byte own late plain needs seen is) =
-        let u = own_both f (is_own owns h x) (a.own x) (c.own x) o (mirrors.own x) own in
+        let u = own_both f f (is_own owns h x) (a.own x) (c.own x) o (mirrors.own x) own in
         let place = u.2 (none h inside) in
         let n = u.5 in
         let un = up o.needs t needs in
@@ -242,10 +242,10 @@ module _ (owns : ℕ → ℕ → Bool) (image : Memory) (harts h : ℕ) (m : Lis
         let byte = byte_passed (is_shared owns) m opening x c0 t l in
         let us = up (c.seen x) (last_place m x t) seen in
         let s = mirrors.seen x in
-        let mirror : OwnMirrors f false (a.own x) (c.own x) = subst (λ (b : Bool). OwnMirrors f b (a.own x) (c.own x)) (none h inside) (mirrors.own x) in
+        let mirror : OwnMirrors f f false (a.own x) (c.own x) = subst (λ (b : Bool). OwnMirrors f f b (a.own x) (c.own x)) (none h inside) (mirrors.own x) in
         subst (λ (n : ℕ). IsRead shared opening a (f t) x (f (last_place m x t)) n) (ap (byte_at shared opening x) place ∙ byte)
         (subst (λ (q : ℕ). IsRead shared opening a (f t) x q (byte_at shared opening x (last_place shared x (f t)))) place
-        (remembered (past_below f up (a.own x) (c.own x) t mirror past) (omega (arith, place, us, s))))
+        (remembered (past_below f f up (λ n. omega arith) (a.own x) (c.own x) t mirror past) (omega (arith, place, us, s))))
 
     gets_apart : (result written : Option ℕ) (address : ℕ) (w : Width) (o : Option ℕ) → IsInOne address (width_bytes w) → Nobodys address → Gets m opening c v address w o →
         Gets shared opening a (as_apart v (f v.time) result written (λ x. f (v.source x))) address w o
@@ -492,12 +492,12 @@ module _ (owns : ℕ → ℕ → Bool) (image : Memory) (harts h : ℕ) (m : Lis
             let x = address + k in
             let range = within_range address (width_bytes w) k l in
             let mine = own_at address w one own (address + k) range in
-            bytes_tell f (is_own owns h (address + k)) (opening (address + k)) (a.own (address + k)) (c.own (address + k)) (mirrors.own (address + k)) (byte_of n k)
+            bytes_tell f f (is_own owns h (address + k)) (opening (address + k)) (a.own (address + k)) (c.own (address + k)) (mirrors.own (address + k)) (byte_of n k)
             (own_read image h m opening (address + k) vs c v (byte_of n k) (keeps_own (address + k)) (alone owns harts m h (address + k) kept inside mine) (fits_on (address + k)) (omega (arith, before))
             (ap (λ (y : Access). covers y (address + k)) e ∙ range) (ap loads e) (ap stores e) _ (bytes k l)))
             ∙ ap (λ (i : ℕ). Some i) (total_is w n fits ∙ same),
         λ k l.
-            let b = needs_below f (is_own owns h (address + k)) (a.own (address + k)) (c.own (address + k)) (mirrors.own (address + k)) in
+            let b = needs_below f f (is_own owns h (address + k)) (a.own (address + k)) (c.own (address + k)) (mirrors.own (address + k)) in
             let t = own_needs image h m opening (address + k) vs c v _ _ (keeps_own (address + k)) (bytes k l) in
             let u = up (needs_of (c.own (address + k))) v.time t in
             omega (arith, b, u),
@@ -505,7 +505,7 @@ module _ (owns : ℕ → ℕ → Bool) (image : Memory) (harts h : ℕ) (m : Lis
       recalled address w _ one own e (gets-later late sources) = (
         tells_none (own_number opening a address (width_bytes w)),
         λ k l.
-            let b = needs_below f (is_own owns h (address + k)) (a.own (address + k)) (c.own (address + k)) (mirrors.own (address + k)) in
+            let b = needs_below f f (is_own owns h (address + k)) (a.own (address + k)) (c.own (address + k)) (mirrors.own (address + k)) in
             let t = own_late image h m opening (address + k) vs c (keeps_own (address + k)) in
             let u = up (needs_of (c.own (address + k))) v.time (omega (arith, t, late)) in
             omega (arith, b, u),

@@ -89,8 +89,8 @@ known_at [] r l = absurd (omega (arith, l))
 known_at (x ∷ xs) zero l = refl
 known_at (x ∷ xs) (suc r) l = known_at xs r (omega (arith, l))
 
-pub start_mirrors : (owns : ℕ → ℕ → Bool) (h : ℕ) (f : ℕ → ℕ) (start : Hart) → length start.x ≡ 32 → Mirrors owns h f (run_start start) (run_start start)
-start_mirrors owns h f start sized = record {
+pub start_mirrors : (owns : ℕ → ℕ → Bool) (h : ℕ) (f : ℕ → ℕ) (g : ℕ → ℕ → ℕ) (start : Hart) → length start.x ≡ 32 → Mirrors owns h f g (run_start start) (run_start start)
+start_mirrors owns h f g start sized = record {
   pc = refl;
   registers = λ r n e. e;
   small = length-map start.x (λ v. Some v) ∙ sized;
@@ -168,7 +168,7 @@ module _ (owns : ℕ → ℕ → Bool) (k : ℕ) (image : Memory) (harts h : ℕ
   passed_small j l shared = (passing (is_shared owns) m j l shared).2
 
   pub record ForRun (p : Spot) (vs : List Move) (c : RunState) (chosen : Option Stored) : Type 0 where
-    pub mirrors : Mirrors owns h t p.place.state c
+    pub mirrors : Mirrors owns h t (λ x. t) p.place.state c
     pub count : p.place.count ≤ length vs
     pub paid : (j : ℕ) → j < length m → is_shared owns (get_or m j no_store) ≡ true → Paid vs j → p.place.paid (t j) ≡ true
     pub next : p.place.next ≡ chosen
@@ -177,7 +177,7 @@ module _ (owns : ℕ → ℕ → Bool) (k : ℕ) (image : Memory) (harts h : ℕ
   -- what stands for such a spot
   stands_too : (q p : Spot) (vs : List Move) (c : RunState) (chosen : Option Stored) → StandsForApart n q p → ForRun p vs c chosen → ForRun q vs c chosen
   stands_too q p vs c chosen s r = record {
-    mirrors = mirrors_ahead owns h t q.place.state p.place.state c s.state r.mirrors;
+    mirrors = mirrors_ahead owns h t (λ x. t) q.place.state p.place.state c s.state r.mirrors;
     count = (let i = s.count in let j = r.count in omega (arith, i, j));
     paid = λ j l shared paid. s.paid (t j) (passed_small j l shared) (r.paid j l shared paid);
     next = s.next ∙ r.next;
@@ -220,7 +220,7 @@ module _ (owns : ℕ → ℕ → Bool) (k : ℕ) (image : Memory) (harts h : ℕ
     ]
 
     -- what the run came to isn't lost: it may still do its stores of the list, or did them
-    is_lost : (q : Place) → Mirrors owns h t q.state (moved h m c v) →
+    is_lost : (q : Place) → Mirrors owns h t (λ x. t) q.state (moved h m c v) →
         ((j : ℕ) → j < length m → is_shared owns (get_or m j no_store) ≡ true → Paid (vs ++ v ∷ []) j → q.paid (t j) ≡ true) → IsLost h n q → ⊥
     is_lost q mirror paid lost =
         let end = f_all owns image harts h m opening kept inside in
@@ -259,7 +259,7 @@ module _ (owns : ℕ → ℕ → Bool) (k : ℕ) (image : Memory) (harts h : ℕ
       pub not_lost : IsLost h n (place_apart owns h n p.place move) → ⊥
 
     step_to : (result written : Option ℕ) (source : ℕ → ℕ) → ActsApart owns image h n opening (IsPlaced h n) p.place.state (as_apart v (t v.time) result written source) →
-        (after : Place) → place_apart owns h n p.place (as_apart v (t v.time) result written source) ≡ after → Mirrors owns h t after.state (moved h m c v) → after.count ≡ p.place.count + 1 → after.next ≡ p.place.next →
+        (after : Place) → place_apart owns h n p.place (as_apart v (t v.time) result written source) ≡ after → Mirrors owns h t (λ x. t) after.state (moved h m c v) → after.count ≡ p.place.count + 1 → after.next ≡ p.place.next →
         ((j : ℕ) → j < length m → is_shared owns (get_or m j no_store) ≡ true → Paid (vs ++ v ∷ []) j → after.paid (t j) ≡ true) → Step
     step_to result written source acts after to mirror counted next did = record {
       move = as_apart v (t v.time) result written source;
@@ -315,7 +315,7 @@ module _ (owns : ℕ → ℕ → Bool) (k : ℕ) (image : Memory) (harts h : ℕ
 
   pub first_for : ForRun (first_spot start) [] (run_start start) None
   first_for = record {
-    mirrors = start_mirrors owns h t start sized;
+    mirrors = start_mirrors owns h t (λ x. t) start sized;
     count = omega arith;
     paid = λ j l shared paid. absurd (let i = paid.1.1 in omega (arith, i));
     next = refl;
@@ -431,7 +431,7 @@ module _ (owns : ℕ → ℕ → Bool) (k : ℕ) (image : Memory) (harts h : ℕ
         puts = outputs_known e.state.output p.place.state.output r.mirrors.output output e.puts;
       }
     where
-      halts_too : (a : RunState) → Mirrors owns h t a e.state → KnowsRegisters e.state → Halts image e.state e.reason → Halts image a e.reason
+      halts_too : (a : RunState) → Mirrors owns h t (λ x. t) a e.state → KnowsRegisters e.state → Halts image e.state e.reason → Halts image a e.reason
       halts_too a r knows x = record {
         hart = x.hart;
         lags = record { pc = r.pc ∙ x.lags.pc; registers = refines_too e.state.registers a.registers x.hart.x r.small r.registers knows x.lags.registers };

@@ -92,13 +92,14 @@ puts_tell v w i tells numbered = by_kind i numbered
 -- ---- states
 
 -- the own last store to a byte: of a shared byte also where it stands
-pub data OwnMirrors (f : ℕ → ℕ) (private : Bool) : Option OwnByte → Option OwnByte → Type 0 where
-  mirrors-none : OwnMirrors f private None None
-  mirrors-both : (o p : OwnByte) → (private ≡ false → o.place ≡ f p.place) → (private ≡ false → o.atomic ≡ p.atomic) → Tells p.byte o.byte → o.needs ≤ f p.needs →
-      OwnMirrors f private (Some o) (Some p)
+pub data OwnMirrors (f g : ℕ → ℕ) (private : Bool) : Option OwnByte → Option OwnByte → Type 0 where
+  mirrors-none : OwnMirrors f g private None None
+  mirrors-both : (o p : OwnByte) → (private ≡ false → o.place ≡ g p.place) → (private ≡ false → o.atomic ≡ p.atomic) → Tells p.byte o.byte → o.needs ≤ f p.needs →
+      OwnMirrors f g private (Some o) (Some p)
 
--- a mirrors c, where h is the hart, and f t is the number of shared stores among the first t
-pub record Mirrors (owns : ℕ → ℕ → Bool) (h : ℕ) (f : ℕ → ℕ) (a c : RunState) : Type 0 where
+-- a mirrors c, where h is the hart, f t is the number of shared stores among the first t, and the store to byte x at place p stands at place g x p
+-- among them
+pub record Mirrors (owns : ℕ → ℕ → Bool) (h : ℕ) (f : ℕ → ℕ) (g : ℕ → ℕ → ℕ) (a c : RunState) : Type 0 where
   pub pc : a.pc ≡ c.pc
   pub registers : TellsAll c.registers a.registers
   pub small : length a.registers ≡ 32
@@ -106,11 +107,11 @@ pub record Mirrors (owns : ℕ → ℕ → Bool) (h : ℕ) (f : ℕ → ℕ) (a 
   pub kinds : KindsBelow f a.kinds c.kinds
   pub carried : CarriedBelow f a.carried c.carried
   pub touched : (x : ℕ) → a.touched x ≤ f (c.touched x)
-  pub seen : (x : ℕ) → a.seen x ≤ f (c.seen x)
-  pub own : (x : ℕ) → OwnMirrors f (is_own owns h x) (a.own x) (c.own x)
+  pub seen : (x : ℕ) → a.seen x ≤ g x (c.seen x)
+  pub own : (x : ℕ) → OwnMirrors f (g x) (is_own owns h x) (a.own x) (c.own x)
   pub held : a.held ≡ c.held
   pub reserved : a.reserved ≤ f c.reserved
-  pub sources : (x : ℕ) → is_held c.held x ≡ true → f (c.sources x) ≤ a.sources x
+  pub sources : (x : ℕ) → is_held c.held x ≡ true → g x (c.sources x) ≤ a.sources x
   pub output : OutputTells c.output a.output
 
 -- a move with another time, other numbers and other sources
@@ -118,23 +119,19 @@ abbrev pub as_apart : Move → ℕ → Option ℕ → Option ℕ → (ℕ → �
 as_apart v time result written source = record v { time = time; result = result; written = written; source = source }
 
 -- what one more move leaves
-module _ (owns : ℕ → ℕ → Bool) (h : ℕ) (f : ℕ → ℕ) (up : Rises f) (a c : RunState) (mirrors : Mirrors owns h f a c) where
+module _ (owns : ℕ → ℕ → Bool) (h : ℕ) (f : ℕ → ℕ) (up : Rises f) (g : ℕ → ℕ → ℕ) (raises : (x : ℕ) → Rises (g x)) (a c : RunState) (mirrors : Mirrors owns h f g a c) where
   -- it leaves as much with these numbers and sources, and with this time behind it
   pub record Likewise (v : Move) (result written : Option ℕ) (source : ℕ → ℕ) (after next : ℕ) : Type 0 where
     pub tells : Tells v.result result
     pub puts : Tells v.written written
     pub behind : after ≡ f next
-    pub reads : (x : ℕ) → loads v.access ≡ true → covers v.access x ≡ true → source x ≤ f (v.source x)
-    pub reserves : (x : ℕ) → is_lr v.access ≡ true → f (v.source x) ≤ source x
+    pub reads : (x : ℕ) → loads v.access ≡ true → covers v.access x ≡ true → source x ≤ g x (v.source x)
+    pub reserves : (x : ℕ) → is_lr v.access ≡ true → g x (v.source x) ≤ source x
     pub calls : v.instruction ≡ Ecall → (n : ℕ) × (view c.registers 17 ≡ Some n)
 
-  raised : (b : Bool) (u w n k : ℕ) → u ≤ f w → n ≤ f k → (if b then max u n else u) ≤ f (if b then max w k else w)
-  raised true u w n k l e = let p = up w (max w k) (omega arith) in let q = up k (max w k) (omega arith) in omega (arith, l, e, p, q)
-  raised false u w n k l e = l
-
-  raised_seen : (b : Bool) (u w n k : ℕ) → u ≤ f w → (b ≡ true → n ≤ f k) → (if b then max u n else u) ≤ f (if b then max w k else w)
-  raised_seen true u w n k l e = raised true u w n k l (e refl)
-  raised_seen false u w n k l e = l
+  raised : (e : ℕ → ℕ) → Rises e → (b : Bool) (u w n k : ℕ) → u ≤ e w → (b ≡ true → n ≤ e k) → (if b then max u n else u) ≤ e (if b then max w k else w)
+  raised e rise true u w n k l m = let p = rise w (max w k) (omega arith) in let q = rise k (max w k) (omega arith) in let r = m refl in omega (arith, l, r, p, q)
+  raised e rise false u w n k l m = l
 
   chosen : (b : Bool) (n k u w : ℕ) → n ≤ f k → u ≤ f w → (if b then n else u) ≤ f (if b then k else w)
   chosen true n k u w e l = e
@@ -148,25 +145,21 @@ module _ (owns : ℕ → ℕ → Bool) (h : ℕ) (f : ℕ → ℕ) (up : Rises f
   held_before (Atomic w o p z r v) s x e k = k
   held_before (Fence before after mode p) s x e k = k
 
-  own_after : (x : ℕ) (b : Bool) (o p : OwnByte) → o.place ≡ f p.place → o.atomic ≡ p.atomic → Tells p.byte o.byte → o.needs ≤ f p.needs →
-      OwnMirrors f (is_own owns h x) (if b then Some o else a.own x) (if b then Some p else c.own x)
-  own_after x true o p place atomic byte needs = mirrors-both o p (λ e. place) (λ e. atomic) byte needs
-  own_after x false o p place atomic byte needs = mirrors.own x
-
-  pub moved_mirrors : (v : Move) (time : ℕ) (result written : Option ℕ) (source : ℕ → ℕ) (after next : ℕ) → AreRegisters (registers_of v.instruction) →
-      Likewise v result written source after next → Mirrors owns h f (moved_at h after a (as_apart v time result written source)) (moved_at h next c v)
-  moved_mirrors v time result written source after next fit l = record {
+  -- with these own last stores
+  pub moved_with : (v : Move) (time : ℕ) (result written : Option ℕ) (source : ℕ → ℕ) (after next : ℕ) (os ps : ℕ → Option OwnByte) → AreRegisters (registers_of v.instruction) →
+      Likewise v result written source after next → ((x : ℕ) → OwnMirrors f (g x) (is_own owns h x) (os x) (ps x)) →
+      Mirrors owns h f g (record (moved_at h after a (as_apart v time result written source)) { own = os }) (record (moved_at h next c v) { own = ps })
+  moved_with v time result written source after next os ps fit l own = record {
     pc = refl;
     registers = set_tells c.registers a.registers (answers_to v.instruction) v.result result (mirrors.size ∙ sym mirrors.small) l.tells mirrors.registers;
     small = set_size a.registers (answers_to v.instruction) result ∙ mirrors.small;
     size = set_size c.registers (answers_to v.instruction) v.result ∙ mirrors.size;
     kinds = kinds_below_after f up a.kinds c.kinds v.access (operates v) after next below mirrors.kinds;
     carried = carried_below_after f up a.carried c.carried (registers_of v.instruction) (step_event h (Some v.access)) after next fit below mirrors.carried;
-    touched = λ x. raised (operates v && covers v.access x) (a.touched x) (c.touched x) after next (mirrors.touched x) below;
-    seen = λ x. raised_seen (loads v.access && covers v.access x) (a.seen x) (c.seen x) (source x) (v.source x) (mirrors.seen x)
+    touched = λ x. raised f up (operates v && covers v.access x) (a.touched x) (c.touched x) after next (mirrors.touched x) (λ e. below);
+    seen = λ x. raised (g x) (raises x) (loads v.access && covers v.access x) (a.seen x) (c.seen x) (source x) (v.source x) (mirrors.seen x)
         (λ e. let p = and_parts (loads v.access) (covers v.access x) e in l.reads x p.0 p.1);
-    own = λ x. own_after x (writes v.access x) _ _ l.behind refl (tells_map (λ n. byte_of n (x - address_of v.access)) v.written written l.puts)
-        (operands_below f up a.carried c.carried (registers_of v.instruction) fit mirrors.carried);
+    own = own;
     held = ap (held_after_own v.access) mirrors.held;
     reserved = chosen (is_lr v.access) after next a.reserved c.reserved below mirrors.reserved;
     sources = λ x held. by_lr (is_lr v.access) refl x held;
@@ -177,9 +170,23 @@ module _ (owns : ℕ → ℕ → Bool) (h : ℕ) (f : ℕ → ℕ) (up : Rises f
       below : after ≤ f next
       below = let e = l.behind in omega (arith, e)
 
-      by_lr : (b : Bool) → is_lr v.access ≡ b → (x : ℕ) → is_held (held_after_own v.access c.held) x ≡ true → f ((if b then v.source else c.sources) x) ≤ (if b then source else a.sources) x
+      by_lr : (b : Bool) → is_lr v.access ≡ b → (x : ℕ) → is_held (held_after_own v.access c.held) x ≡ true → g x ((if b then v.source else c.sources) x) ≤ (if b then source else a.sources) x
       by_lr true e x held = l.reserves x e
       by_lr false e x held = mirrors.sources x (held_before v.access c.held x e held)
+
+  own_after : (x : ℕ) (b : Bool) (o p : OwnByte) → (b ≡ true → o.place ≡ g x p.place) → o.atomic ≡ p.atomic → Tells p.byte o.byte → o.needs ≤ f p.needs →
+      OwnMirrors f (g x) (is_own owns h x) (if b then Some o else a.own x) (if b then Some p else c.own x)
+  own_after x true o p place atomic byte needs = mirrors-both o p (λ e. place refl) (λ e. atomic) byte needs
+  own_after x false o p place atomic byte needs = mirrors.own x
+
+  -- with those that it leaves, where its stores stand
+  pub moved_mirrors : (v : Move) (time : ℕ) (result written : Option ℕ) (source : ℕ → ℕ) (after next : ℕ) → AreRegisters (registers_of v.instruction) →
+      Likewise v result written source after next → ((x : ℕ) → writes v.access x ≡ true → after ≡ g x next) →
+      Mirrors owns h f g (moved_at h after a (as_apart v time result written source)) (moved_at h next c v)
+  moved_mirrors v time result written source after next fit l place =
+      moved_with v time result written source after next (moved_at h after a (as_apart v time result written source)).own (moved_at h next c v).own fit l
+      (λ x. own_after x (writes v.access x) _ _ (place x) refl (tells_map (λ n. byte_of n (x - address_of v.access)) v.written written l.puts)
+      (operands_below f up a.carried c.carried (registers_of v.instruction) fit mirrors.carried))
 
 -- ---- states that are ahead
 
@@ -193,11 +200,11 @@ outputs_on _ _ us (tells-more o p os ps t rest) more = by_other (λ ws further. 
     by_other : ((ws : List (Option ℕ)) → OutputTells ps ws → OutputTells os ws) → (us : List (Option ℕ)) → OutputTells (p ∷ ps) us → OutputTells (o ∷ os) us
     by_other behind _ (tells-more _ u _ us f more) = tells-more o u os us (on u f) (behind us more)
 
-own_ahead : (f : ℕ → ℕ) (private : Bool) (o p q : Option OwnByte) → OwnAhead o p → OwnMirrors f private p q → OwnMirrors f private o q
-own_ahead f private _ _ q ahead-none r = r
-own_ahead f private _ _ q (ahead-both o p place byte atomic needs) r = by_other q r
+own_ahead : (f g : ℕ → ℕ) (private : Bool) (o p q : Option OwnByte) → OwnAhead o p → OwnMirrors f g private p q → OwnMirrors f g private o q
+own_ahead f g private _ _ q ahead-none r = r
+own_ahead f g private _ _ q (ahead-both o p place byte atomic needs) r = by_other q r
   where
-    by_other : (q : Option OwnByte) → OwnMirrors f private (Some p) q → OwnMirrors f private (Some o) q
+    by_other : (q : Option OwnByte) → OwnMirrors f g private (Some p) q → OwnMirrors f g private (Some o) q
     by_other _ (mirrors-both _ u place2 atomic2 byte2 needs2) =
         mirrors-both o u (λ e. place ∙ place2 e) (λ e. atomic ∙ atomic2 e) (λ n is. byte n (byte2 n is)) (omega (arith, needs, needs2))
 
@@ -205,8 +212,8 @@ at_most : (u v w : ℕ) → u ≤ v → v ≤ w → u ≤ w
 at_most u v w l m = omega (arith, l, m)
 
 -- what is ahead mirrors as well
-pub mirrors_ahead : (owns : ℕ → ℕ → Bool) (h : ℕ) (f : ℕ → ℕ) (a b c : RunState) → IsAhead a b → Mirrors owns h f b c → Mirrors owns h f a c
-mirrors_ahead owns h f a b c l m = record {
+pub mirrors_ahead : (owns : ℕ → ℕ → Bool) (h : ℕ) (f : ℕ → ℕ) (g : ℕ → ℕ → ℕ) (a b c : RunState) → IsAhead a b → Mirrors owns h f g b c → Mirrors owns h f g a c
+mirrors_ahead owns h f g a b c l m = record {
   pc = l.pc ∙ m.pc;
   registers = λ r n e. l.registers r n (m.registers r n e);
   small = l.size ∙ m.small;
@@ -230,7 +237,7 @@ mirrors_ahead owns h f a b c l m = record {
   };
   touched = λ x. at_most _ _ _ (l.touched x) (m.touched x);
   seen = λ x. at_most _ _ _ (l.seen x) (m.seen x);
-  own = λ x. own_ahead f (is_own owns h x) (a.own x) (b.own x) (c.own x) (l.own x) (m.own x);
+  own = λ x. own_ahead f (g x) (is_own owns h x) (a.own x) (b.own x) (c.own x) (l.own x) (m.own x);
   held = l.held ∙ m.held;
   reserved = at_most _ _ _ l.reserved m.reserved;
   sources = λ x e. at_most _ _ _ (m.sources x e) (l.sources x (ap (λ (s : Option Span). is_held s x) m.held ∙ e));

@@ -141,7 +141,7 @@ view_other v d r o other = elim (cases_eq d 0) [
 -- ---- one move
 
 module _ (owns : ℕ → ℕ → Bool) (image : Memory) (harts h : ℕ) (m : List Stored) (opening : ℕ → ℕ) (kept : are_kept owns harts m ≡ true) (inside : h < harts)
-    (a c : RunState) (v : Move) (vs : List Move) (mirrors : Mirrors owns h (f owns image harts h m opening kept inside) a c) (keeps_own : (x : ℕ) → Kept image h m opening x vs c)
+    (a c : RunState) (v : Move) (vs : List Move) (mirrors : Mirrors owns h (f owns image harts h m opening kept inside) (λ x. f owns image harts h m opening kept inside) a c) (keeps_own : (x : ℕ) → Kept image h m opening x vs c)
     (apart : KeepsToItself owns image harts h a) (at : decoded image c.pc ≡ Some v.instruction) (fit : AreRegisters (registers_of v.instruction)) where
   abbrev t : ℕ → ℕ
   t = f owns image harts h m opening kept inside
@@ -248,7 +248,7 @@ module _ (owns : ℕ → ℕ → Bool) (image : Memory) (harts h : ℕ) (m : Lis
       pub written : Option ℕ
       pub source : ℕ → ℕ
       pub acts : ActsApart owns image h n opening (IsPlaced h n) a (as_apart v (t v.time) result written source)
-      pub leaves : Mirrors owns h t (if private then moved_privately h n a (as_apart v (t v.time) result written source) else moved h n a (as_apart v (t v.time) result written source))
+      pub leaves : Mirrors owns h t (λ x. t) (if private then moved_privately h n a (as_apart v (t v.time) result written source) else moved h n a (as_apart v (t v.time) result written source))
           (moved h m c v)
 
     pub did_shared : is_private owns h v.access ≡ false → Did false
@@ -260,14 +260,14 @@ module _ (owns : ℕ → ℕ → Bool) (image : Memory) (harts h : ℕ) (m : Lis
           written = s.written;
           source = λ x. t (v.source x);
           acts = shares public s.acts;
-          leaves = moved_mirrors owns h t rises a c mirrors v (t v.time) s.result s.written (λ x. t (v.source x)) _ _ fit (record {
+          leaves = moved_mirrors owns h t rises (λ x. t) (λ x. rises) a c mirrors v (t v.time) s.result s.written (λ x. t (v.source x)) _ _ fit (record {
             tells = s.tells;
             puts = s.puts;
             behind = behind_shared s.result s.written (λ x. t (v.source x)) public place;
             reads = λ x load cover. omega arith;
             reserves = λ x lr. omega arith;
             calls = called image h m opening (IsPlaced h m) c v doing;
-          });
+          }) (λ x w. behind_shared s.result s.written (λ y. t (v.source y)) public place);
         }
 
     own_byte_is : is_private owns h v.access ≡ true → IsInOne (address_of v.access) (bytes_of v.access) → (x : ℕ) → writes v.access x ≡ true → is_own owns h x ≡ true
@@ -281,8 +281,8 @@ module _ (owns : ℕ → ℕ → Bool) (image : Memory) (harts h : ℕ) (m : Lis
 
     -- without places of own bytes it mirrors as well
     unplaced_all : is_private owns h v.access ≡ true → IsInOne (address_of v.access) (bytes_of v.access) → (b : RunState) → ((x : ℕ) → writes v.access x ≡ false → b.own x ≡ a.own x) →
-        Mirrors owns h t b (moved h m c v) →
-        Mirrors owns h t (record b { own = λ x. if writes v.access x then option_map without_place (b.own x) else a.own x }) (moved h m c v)
+        Mirrors owns h t (λ x. t) b (moved h m c v) →
+        Mirrors owns h t (λ x. t) (record b { own = λ x. if writes v.access x then option_map without_place (b.own x) else a.own x }) (moved h m c v)
     unplaced_all private one b same mirror = record {
       pc = mirror.pc;
       registers = mirror.registers;
@@ -299,24 +299,24 @@ module _ (owns : ℕ → ℕ → Bool) (image : Memory) (harts h : ℕ) (m : Lis
       output = mirror.output;
     }
       where
-        own_at : (x : ℕ) (w : Bool) → writes v.access x ≡ w → OwnMirrors t (is_own owns h x) (if w then option_map without_place (b.own x) else a.own x) ((moved h m c v).own x)
+        own_at : (x : ℕ) (w : Bool) → writes v.access x ≡ w → OwnMirrors t t (is_own owns h x) (if w then option_map without_place (b.own x) else a.own x) ((moved h m c v).own x)
         own_at x true e =
             let mine = own_byte_is private one x e in
-            subst (λ (q : Bool). OwnMirrors t q (option_map without_place (b.own x)) ((moved h m c v).own x)) (sym mine)
-            (unplaced t (b.own x) ((moved h m c v).own x) (subst (λ (q : Bool). OwnMirrors t q (b.own x) ((moved h m c v).own x)) mine (mirror.own x)))
-        own_at x false e = subst (λ (o : Option OwnByte). OwnMirrors t (is_own owns h x) o ((moved h m c v).own x)) (same x e) (mirror.own x)
+            subst (λ (q : Bool). OwnMirrors t t q (option_map without_place (b.own x)) ((moved h m c v).own x)) (sym mine)
+            (unplaced t t (b.own x) ((moved h m c v).own x) (subst (λ (q : Bool). OwnMirrors t t q (b.own x) ((moved h m c v).own x)) mine (mirror.own x)))
+        own_at x false e = subst (λ (o : Option OwnByte). OwnMirrors t t (is_own owns h x) o ((moved h m c v).own x)) (same x e) (mirror.own x)
 
     pub did_private : is_private owns h v.access ≡ true → ((x : ℕ) → Fits image h m opening x (vs ++ v ∷ []) (moved h m c v)) → Did true
     did_private private fits_on =
         let s = apart_acts owns image harts h m opening kept inside a c v vs mirrors keeps_own apart at private fits_on doing in
-        let after = moved_mirrors owns h t rises a c mirrors v (t v.time) s.result s.written s.source _ _ fit (record {
+        let after = moved_mirrors owns h t rises (λ x. t) (λ x. rises) a c mirrors v (t v.time) s.result s.written s.source _ _ fit (record {
           tells = s.tells;
           puts = s.puts;
           behind = behind_private private place;
           reads = λ x load cover. let z = s.none x in omega (arith, z);
           reserves = λ x lr. absurd (let p = s.plain in cc);
           calls = called image h m opening (IsPlaced h m) c v doing;
-        }) in
+        }) (λ x w. behind_private private place) in
         record {
           result = s.result;
           written = s.written;
