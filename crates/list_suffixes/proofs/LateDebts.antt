@@ -1,5 +1,5 @@
 -- A hart that owes a store of the list, and goes on by a late load on which a branch comes next, is lost with the branch.
-use Rattle.std.proofs.Common.{◌≡◌, ◌≢◌, ℕ, zero, suc, slice_set, ◌+◌, ◌<◌, ◌≤◌, ◌%◌, ◌==◌, ◌&&◌, ◌||◌, ◌⊎◌, max, min, Bool, true, false, if◌then◌else◌, List, [], ◌∷◌, ◌++◌, length, get_or, Contains, Option, Some, None, is_some, refl, sym, ap, ◌∙◌, subst, inl, inr, arith}
+use Rattle.std.proofs.Common.{◌≡◌, ◌≢◌, ℕ, zero, suc, slice_set, ◌+◌, ◌<◌, ◌≤◌, ◌%◌, ◌==◌, ◌&&◌, ◌⊎◌, max, min, Bool, true, false, if◌then◌else◌, List, [], ◌∷◌, ◌++◌, length, get_or, Option, Some, None, refl, sym, ap, ◌∙◌, subst, inl, inr, arith}
 use Rattle.std.proofs.lemmas.Bool.{cases_lt, cond-false, eq-eqb, ne_eqb}
 use Rattle.std.proofs.lemmas.List.{get_or-set_same, get_or_append_left, length-append}
 use Rattle.pages.specs.declared.access.Width.{Width}
@@ -18,28 +18,26 @@ use Rattle.hart_step.specs.Registers.{reg, set_reg}
 use Rattle.hart_step.specs.Step.{by_instr, by_word}
 use Rattle.memory_order.specs.Operations.{covers}
 use Rattle.memory_order.specs.Registers.{registers_of}
-use Rattle.rule_checker.specs.CarriedBounds.{carried_after, destination_with, result_bound, sources_bound}
+use Rattle.rule_checker.specs.CarriedBounds.{carried_after, sources_bound}
 use Rattle.execution.specs.Executions.{no_access}
 use Rattle.execution.specs.Progressing.{step_event}
 use Rattle.all_endings.specs.Earlier.{IsSized}
-use Rattle.all_endings.specs.Halting.{Halts, KnowsRegisters}
-use Rattle.all_endings.specs.HartRuns.{Acts, IsPlaced, Stands, acts, branches, calls, exchanges, exchanges-unknown, fails, jumps, orders, puts, puts-unknown, reads, reserves, succeeds}
+use Rattle.all_endings.specs.HartRuns.{Acts, IsPlaced, acts, branches, calls, exchanges, exchanges-unknown, fails, jumps, orders, puts, puts-unknown, reads, reserves, succeeds}
 use Rattle.all_endings.specs.HartRuns.{stores as stores_it}
 use Rattle.all_endings.specs.Locality.{filled, without_data}
-use Rattle.all_endings.specs.RunStates.{Move, RunState, behind, moved, moved_at, operates, stores_from}
+use Rattle.all_endings.specs.RunStates.{Move, RunState, behind, moved, moved_at, operates}
 use Rattle.all_endings.specs.StoreLists.{Stored, has_byte, later, no_store}
-use Rattle.all_endings.specs.Stopping.{StopsAreKnown, stop_at, stop_in, stop_of_jump, stop_with}
+use Rattle.all_endings.specs.Stopping.{StopsAreKnown, stop_at, stop_in, stop_with}
 use Rattle.all_endings.proofs.DecodedRegisters.{decoded_fits}
-use Rattle.private_bytes.specs.Owners.{KeepsToItself, Touches, by-conditional, by-exchange, by-read, by-reserve, by-write, is_own, is_private}
+use Rattle.private_bytes.specs.Owners.{Touches, by-conditional, by-exchange, by-read, by-reserve, by-write, is_private}
 use Rattle.private_bytes.specs.PrivateMoves.{ActsApart, keeps, moved_privately, recalls, shares}
 use Rattle.private_bytes.specs.PrivateWalks.{IsLost, Spot, spot_after}
-use Rattle.list_suffixes.specs.ApartRuns.{MovesApart, NoneLost, RunsApart, spots_after}
+use Rattle.list_suffixes.specs.ApartRuns.{MovesApart, NoneLost, RunsApart}
 use Rattle.list_suffixes.specs.LateDebts.{IsBranchedOn, LateDebtsAreLost, Owes, TouchedDebtsAreLost}
 use Rattle.list_suffixes.specs.Serving.{IsOnItsWay, StoreWithin}
 use Rattle.list_suffixes.specs.SettledWalks.{IsKnown}
-use Rattle.list_suffixes.specs.SinceMoves.{state_after}
+use Rattle.list_suffixes.proofs.KeptRuns.{after_state, paid_from}
 use Rattle.list_suffixes.proofs.Serving.{first_kept}
-use Rattle.list_suffixes.proofs.SinceRuns.{after_state, paid_from}
 
 -- ---- kinds of actions
 

@@ -1,11 +1,13 @@
 pub mod Current
 mod Following
+mod Joining
+mod KeptMoves
+pub mod KeptRuns
 pub mod LateDebts
 mod Nodes
 mod Past
+mod Placed
 mod Serving
 mod Settled
 mod Shorter
-mod SinceLists
-mod SinceMoves
-pub mod SinceRuns
+mod Staying

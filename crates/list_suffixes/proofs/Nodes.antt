@@ -1,7 +1,7 @@
 -- Nodes that are looked through leave the ending of every execution in a table.
-use Rattle.std.proofs.Common.{◌≡◌, ℕ, suc, ◌+◌, ◌<◌, ◌≤◌, ◌⊎◌, not, Bool, true, false, List, [], ◌∷◌, ◌++◌, length, take, drop, get_or, Contains, Option, Some, None, refl, sym, ap, ◌∙◌, subst, inl, inr, arith}
+use Rattle.std.proofs.Common.{◌≡◌, ℕ, suc, ◌+◌, ◌<◌, ◌≤◌, ◌⊎◌, not, Bool, true, false, List, [], ◌∷◌, ◌++◌, length, drop, get_or, Contains, Option, Some, None, refl, sym, ap, ◌∙◌, subst, inl, inr, arith}
 use Rattle.std.proofs.Math.Path.{fun_ext}
-use Rattle.std.proofs.lemmas.List.{append-nil, append_assoc, length-append, length-drop, length-map}
+use Rattle.std.proofs.lemmas.List.{append-nil, append_assoc, length-append, length-map}
 use Rattle.std.proofs.lemmas.List.Elements.{Contains-append_right}
 use Rattle.pages.specs.declared.access.Range.{Range}
 use Rattle.pages.specs.Memory.{Memory}
@@ -14,7 +14,7 @@ use Rattle.all_endings.specs.Factorizing.{IsOpenCall}
 use Rattle.all_endings.specs.HartRuns.{Acts, IsPlaced, Runs, Stands, runs-more, runs-none}
 use Rattle.all_endings.specs.Offering.{AreFresh, IsClosed, IsOffered}
 use Rattle.all_endings.specs.RunStates.{Move, RunState, moved, operates, run_start}
-use Rattle.all_endings.specs.StoreLists.{Stored, byte_at, has_byte, last_place, no_store}
+use Rattle.all_endings.specs.StoreLists.{Stored, has_byte, no_store}
 use Rattle.all_endings.specs.Tables.{HartEnds, HartsEnd, memory_of}
 use Rattle.all_endings.specs.Walking.{EndsAt, HartEnding, IsPaid, seen_after}
 use Rattle.all_endings.proofs.Closing.{hart_in}
@@ -27,26 +27,27 @@ use Rattle.private_bytes.proofs.KeptLists.{Keeps, are_kept, is_kept_by, is_share
 use Rattle.private_bytes.proofs.OwnStores.{fits_before, fits_may, fits_paid}
 use Rattle.private_bytes.proofs.SharedLists.{found, passed, passed_all, passing, those}
 use Rattle.private_bytes.proofs.Together.{ranges_alike, seen_same, those_next}
-use Rattle.list_suffixes.specs.ApartRuns.{AreBehind, MovesApart, NoneLost, RunsApart, spots_after}
+use Rattle.list_suffixes.specs.ApartRuns.{AreOfThoseKept, MovesApart, NoneLost, RunsApart, spots_after}
 use Rattle.list_suffixes.specs.NodeWalks.{IsLookedThroughFrom, IsWalkedFrom, NodeTablesAreWhole, seen_from}
 use Rattle.list_suffixes.specs.Serving.{GoesPast, IsOnItsWay, IsServed, Node}
-use Rattle.list_suffixes.specs.Since.{AreShared, spot_since, state_since}
-use Rattle.list_suffixes.proofs.Following.{behind_with, cover, cover_from, cover_one, node, none_with, run_with, spots_with}
-use Rattle.list_suffixes.proofs.Past.{halts_since, keeps_back, knows_back}
-use Rattle.list_suffixes.proofs.Serving.{behind_before, behind_behind, count_after, first_kept, none_behind, none_more, run_behind, run_more, size_after, spots_joined}
-use Rattle.list_suffixes.proofs.SinceLists.{at_drop, byte_since, last_drop}
-use Rattle.list_suffixes.proofs.SinceMoves.{offers_since}
-use Rattle.list_suffixes.proofs.SinceRuns.{after_count, after_size}
+use Rattle.list_suffixes.specs.Staying.{AreShared, kept, kept_before, laid, place_before, spot_kept, state_kept}
+use Rattle.list_suffixes.proofs.Following.{cover, cover_from, cover_one, node, none_with, of_kept_with, run_with, spots_with}
+use Rattle.list_suffixes.proofs.Joining.{at_before, before_within}
+use Rattle.list_suffixes.proofs.KeptMoves.{offers_kept}
+use Rattle.list_suffixes.proofs.KeptRuns.{after_count, after_size}
+use Rattle.list_suffixes.proofs.Past.{halts_kept, keeps_back, knows_back}
+use Rattle.list_suffixes.proofs.Serving.{count_after, first_kept, kept_behind, kept_until, none_behind, none_more, run_behind, run_more, size_after, spots_joined}
+use Rattle.list_suffixes.proofs.Staying.{kept_later, kept_length, kept_rises, memory_kept}
 
 -- the shared stores of a list that is kept are to nobody's own bytes
 shared_those : (owns : ℕ → ℕ → Bool) (harts : ℕ) (m : List Stored) → are_kept owns harts m ≡ true → (h : ℕ) → h < harts → AreShared owns h (those (is_shared owns) m)
-shared_those owns harts m kept h small k x l wet =
+shared_those owns harts m keep h small k x l wet =
     let all = passed_all (is_shared owns) m 0 in
     let e : length m ≡ length m + 0 = omega arith in
     let end : passed (is_shared owns) m (length m) ≡ length (those (is_shared owns) m) = ap (passed (is_shared owns) m) e ∙ omega (arith, all) in
     let w = found (is_shared owns) m (length m) k (omega arith) (omega (arith, l, end)) in
     let same : get_or (those (is_shared owns) m) k no_store ≡ get_or m w.0 no_store = ap (λ (i : ℕ). get_or (those (is_shared owns) m) i no_store) (sym w.3) ∙ (passing (is_shared owns) m w.0 w.1 w.2).1 in
-    by_test (get_or m w.0 no_store) (kept_at owns harts m w.0 kept w.1) w.2 (ap (λ (s : Stored). has_byte s x) (sym same) ∙ wet) (is_own owns h x) refl
+    by_test (get_or m w.0 no_store) (kept_at owns harts m w.0 keep w.1) w.2 (ap (λ (s : Stored). has_byte s x) (sym same) ∙ wet) (is_own owns h x) refl
   where
     by_test : (s : Stored) → Keeps owns harts s → is_shared owns s ≡ true → has_byte s x ≡ true → (b : Bool) → is_own owns h x ≡ b → b ≡ false
     by_test s keeps shared has false own = refl
@@ -70,51 +71,51 @@ node_of f us spots = record { memory = f; stores = us; spots = spots }
 
 -- ---- one hart, against one list that a node serves
 
-module _ (owns : ℕ → ℕ → Bool) (k : ℕ) (image : Memory) (hs : List Hart) (n : Node) (m : List Stored) (kept : are_kept owns (length hs) m ≡ true)
+module _ (owns : ℕ → ℕ → Bool) (k : ℕ) (image : Memory) (hs : List Hart) (n : Node) (m : List Stored) (keep : are_kept owns (length hs) m ≡ true)
     (served : IsServed owns k image hs n (those (is_shared owns) m)) (h : ℕ) (small : h < length hs) (start : Hart) (at : start ≡ get_or hs h start) (sized : length start.x ≡ 32)
     (offered : List Stored) (ends : List HartEnding) (ps : List Spot) (walked : IsWalkedFrom owns k image (length hs) h n offered ends ps) where
   abbrev short : List Stored
   short = those (is_shared owns) m
 
-  abbrev b : ℕ
-  b = served.first
+  abbrev stays : List Bool
+  stays = served.stays
 
   abbrev opening : ℕ → ℕ
   opening = opening_bytes image
 
   shared : AreShared owns h (those (is_shared owns) m)
-  shared = shared_those owns (length hs) m kept h small
+  shared = shared_those owns (length hs) m keep h small
 
   abbrev end_of : List Move → Spot
   end_of us = spots_after owns h short (first_spot start) us
 
-  walked_from : IsWalkedFrom owns k image (length hs) h (node owns k image (length hs) h b short opening served.within shared n.spots) offered ends ps
+  walked_from : IsWalkedFrom owns k image (length hs) h (node owns k image (length hs) h stays short opening served.within served.free shared n.spots) offered ends ps
   walked_from = subst (λ (z : Node). IsWalkedFrom owns k image (length hs) h z offered ends ps)
-      (ap (λ (f : ℕ → ℕ). node_of f n.stores n.spots) (fun_ext served.memory) ∙ ap (λ (us : List Stored). node_of (memory_of (take b short) opening) us n.spots) served.stores) walked
+      (ap (λ (f : ℕ → ℕ). node_of f n.stores n.spots) (fun_ext served.memory) ∙ ap (λ (us : List Stored). node_of (memory_of (laid stays short) opening) us n.spots) served.stores) walked
 
   -- one of the spots stands for it
   abbrev For : Spot → Type 0
-  For a = (w : Spot) × Contains ps w × StandsForApart (drop b short) w (spot_since b a)
+  For a = (w : Spot) × Contains ps w × StandsForApart (kept stays short) w (spot_kept stays short a)
 
   come : (us : List Move) → length us ≤ k → RunsApart owns image h short opening (first_spot start) us → NoneLost owns h short (first_spot start) us →
-      IsOnItsWay owns image (length hs) h (length short) us (end_of us) ⊎ GoesPast owns h b (length short) short (first_spot start) us (n.spots h)
+      IsOnItsWay owns image (length hs) h (length short) us (end_of us) ⊎ GoesPast owns h stays (length short) short (first_spot start) us (n.spots h)
   come us few run none =
       subst (λ (l : List Stored). AreShared owns h l → 0 + length us ≤ k → RunsApart owns image h l opening (first_spot start) us → NoneLost owns h l (first_spot start) us →
-      IsOnItsWay owns image (length hs) h (length short) us (spots_after owns h l (first_spot start) us) ⊎ GoesPast owns h b (length short) l (first_spot start) us (n.spots h)) (append-nil short)
+      IsOnItsWay owns image (length hs) h (length short) us (spots_after owns h l (first_spot start) us) ⊎ GoesPast owns h stays (length short) l (first_spot start) us (n.spots h)) (append-nil short)
       (λ shared few run none. served.runs h start small at [] us shared few run none) shared (omega (arith, few)) run none
 
   size_of : (us : List Move) → length (end_of us).place.state.registers ≡ 32
   size_of us = size_after owns h short us (first_spot start) ∙ length-map start.x (λ v. Some v) ∙ sized
 
   past_for : (us : List Move) → length us ≤ k → RunsApart owns image h short opening (first_spot start) us → NoneLost owns h short (first_spot start) us →
-      GoesPast owns h b (length short) short (first_spot start) us (n.spots h) → For (end_of us)
+      GoesPast owns h stays (length short) short (first_spot start) us (n.spots h) → For (end_of us)
   past_for us few run none g =
       let a = end_of g.before in
       let joined : end_of us ≡ spots_after owns h short a g.rest = ap end_of g.joined ∙ spots_joined owns h short g.before g.rest (first_spot start) in
       let counted = count_after owns h short g.before (first_spot start) in
       let parts = ap length g.joined ∙ length-append g.before g.rest in
       subst For (sym joined)
-      (cover_from owns k image (length hs) h b short opening served.within shared n.spots offered ends ps walked_from g.rest a g.spot (size_of g.before) g.there (g.stands (drop b short))
+      (cover_from owns k image (length hs) h stays short opening served.within served.free shared n.spots offered ends ps walked_from g.rest a g.spot (size_of g.before) g.there (g.stands (kept stays short))
       (omega (arith, counted, parts, few)) (run_behind owns h short image opening g.before g.rest (first_spot start) (subst (RunsApart owns image h short opening (first_spot start)) g.joined run)) g.behind
       (none_behind owns h short g.before g.rest (first_spot start) (subst (NoneLost owns h short (first_spot start)) g.joined none)))
 
@@ -124,26 +125,26 @@ module _ (owns : ℕ → ℕ → Bool) (k : ℕ) (image : Memory) (hs : List Har
     | inl way ↦ way.apart
     | inr g ↦
         let w = past_for us few run none g in
-        keeps_back owns image (length hs) h (state_since b (end_of us).place.state) w.0.place.state w.2.state (walked_from.apart w.0 w.1)
+        keeps_back owns image (length hs) h (state_kept stays short (end_of us).place.state) w.0.place.state w.2.state (walked_from.apart w.0 w.1)
   ]
 
   -- ---- a run against all stores, and the run apart that it is
 
   record Exact (us vs : List Move) (c : RunState) : Type 0 where
     run : RunsApart owns image h short opening (first_spot start) us
-    stands : ForRun owns k image (length hs) h m kept small start sized (end_of us) vs c None
+    stands : ForRun owns k image (length hs) h m keep small start sized (end_of us) vs c None
     none : NoneLost owns h short (first_spot start) us
     many : length us ≡ length vs
 
   abbrev Fit : List Move → RunState → Type 0
-  Fit vs c = AllFit owns k image (length hs) h m kept small start sized vs c
+  Fit vs c = AllFit owns k image (length hs) h m keep small start sized vs c
 
   exact_step : (us vs : List Move) (c : RunState) (v : Move) → length vs < k → Runs image h m opening (run_start start) vs c → decoded image c.pc ≡ Some v.instruction →
       Acts image h m opening (IsPlaced h m) c v → (operates v ≡ true → Stands c v) → Fit (vs ++ v ∷ []) (moved h m c v) → Exact us vs c →
       (u : Move) × (u.access ≡ v.access) × (u.time ≡ passed (is_shared owns) m v.time) × Exact (us ++ u ∷ []) (vs ++ v ∷ []) (moved h m c v)
   exact_step us vs c v few runs does doing stand fits e =
       let many = e.many in
-      let s = one_step owns k image (length hs) h m kept small start sized vs c v None runs does doing stand fits (end_of us) (keeps_at us (omega (arith, many, few)) e.run e.none) e.stands in
+      let s = one_step owns k image (length hs) h m keep small start sized vs c v None runs does doing stand fits (end_of us) (keeps_at us (omega (arith, many, few)) e.run e.none) e.stands in
       let l = length-append us (s.move ∷ []) in
       let r = length-append vs (v ∷ []) in (
         s.move,
@@ -151,7 +152,7 @@ module _ (owns : ℕ → ℕ → Bool) (k : ℕ) (image : Memory) (hs : List Har
         s.time,
         record {
           run = run_more owns h short image opening us s.move (first_spot start) e.run (record { decodes = s.decodes; acts = s.acts; stands = s.stands });
-          stands = subst (λ (q : Spot). ForRun owns k image (length hs) h m kept small start sized q (vs ++ v ∷ []) (moved h m c v) None) (sym (spots_joined owns h short us (s.move ∷ []) (first_spot start))) s.leads;
+          stands = subst (λ (q : Spot). ForRun owns k image (length hs) h m keep small start sized q (vs ++ v ∷ []) (moved h m c v) None) (sym (spots_joined owns h short us (s.move ∷ []) (first_spot start))) s.leads;
           none = none_more owns h short us s.move (first_spot start) e.none s.not_lost;
           many = omega (arith, many, l, r);
         },
@@ -171,7 +172,7 @@ module _ (owns : ℕ → ℕ → Bool) (k : ℕ) (image : Memory) (hs : List Har
   exact_first : Exact [] [] (run_start start)
   exact_first = record {
     run = tt;
-    stands = first_for owns k image (length hs) h m kept small start sized;
+    stands = first_for owns k image (length hs) h m keep small start sized;
     none = λ lost. let l = lost.behind in omega (arith, l);
     many = refl;
   }
@@ -186,27 +187,29 @@ module _ (owns : ℕ → ℕ → Bool) (k : ℕ) (image : Memory) (hs : List Har
       let e = exact_all vs c runs fits few in
       let many = e.1.many in
       elim (come e.0 (omega (arith, many, few)) e.1.run e.1.none) [
-        | inl way ↦ no_open_call owns k image (length hs) h m kept small start sized (end_of e.0) vs c None e.1.stands way.calls call
+        | inl way ↦ no_open_call owns k image (length hs) h m keep small start sized (end_of e.0) vs c None e.1.stands way.calls call
         | inr g ↦
             let w = past_for e.0 (omega (arith, many, few)) e.1.run e.1.none g in
-            no_open_call owns k image (length hs) h m kept small start sized (end_of e.0) vs c None e.1.stands
+            no_open_call owns k image (length hs) h m keep small start sized (end_of e.0) vs c None e.1.stands
             (λ ecall. w.2.constant (walked_from.calls w.0 w.1 (ap (decoded image) w.2.state.pc ∙ ecall))) call
       ]
 
   -- ---- ends
 
-  paid_since : (q w : Spot) → StandsForApart (drop b short) w (spot_since b q) → IsPaid h short q.place → IsPaid h (drop b short) w.place
-  paid_since q w stands pays j l here =
-      let many = length-drop b short in
-      let within = served.within in
-      stands.paid j l (pays (j + b) (omega (arith, l, many, within)) (ap (λ (s : Stored). s.hart) (sym (at_drop b short j)) ∙ here))
+  paid_kept : (q w : Spot) → StandsForApart (kept stays short) w (spot_kept stays short q) → IsPaid h short q.place → IsPaid h (kept stays short) w.place
+  paid_kept q w stands pays j l here =
+      stands.paid j l (pays (place_before stays j) (before_within stays short j served.within l) (ap (λ (s : Stored). s.hart) (sym (at_before stays short j)) ∙ here))
 
-  end_since : (e : HartEnding) (q w : Spot) → length q.place.state.registers ≡ 32 → StandsForApart (drop b short) w (spot_since b q) → EndsAt image h short q.place e → EndsAt image h (drop b short) w.place e
-  end_since e q w size stands x = record {
-    pays = paid_since q w stands x.pays;
-    knows = knows_back (state_since b q.place.state) w.place.state stands.state x.knows;
-    settled = λ y. let i = x.settled y in let j = stands.state.touched y in let many = length-drop b short in omega (arith, i, j, many);
-    halts = halts_since image e.stop b q.place.state w.place.state size stands.state x.knows x.halts;
+  end_kept : (e : HartEnding) (q w : Spot) → length q.place.state.registers ≡ 32 → StandsForApart (kept stays short) w (spot_kept stays short q) → EndsAt image h short q.place e → EndsAt image h (kept stays short) w.place e
+  end_kept e q w size stands x = record {
+    pays = paid_kept q w stands x.pays;
+    knows = knows_back (state_kept stays short q.place.state) w.place.state stands.state x.knows;
+    settled = λ y.
+        let i = kept_rises stays (q.place.state.touched y) (length short) (x.settled y) in
+        let j = stands.state.touched y in
+        let many = kept_length stays short served.within in
+        omega (arith, i, j, many);
+    halts = halts_kept image e.stop stays short q.place.state w.place.state size stands.state x.knows x.halts;
     puts = outputs_known q.place.state.output w.place.state.output stands.state.output e.output x.puts;
   }
 
@@ -216,12 +219,12 @@ module _ (owns : ℕ → ℕ → Bool) (k : ℕ) (image : Memory) (hs : List Har
       let many = x.1.many in
       let few = e.short in
       let to : HartEnding = record { stop = e.reason; output = output } in
-      let end = end_apart owns k image (length hs) h m kept small start sized stop output e (end_of x.0) x.1.stands in
+      let end = end_apart owns k image (length hs) h m keep small start sized stop output e (end_of x.0) x.1.stands in
       elim (come x.0 (omega (arith, many, few)) x.1.run x.1.none) [
         | inl way ↦ absurd (way.goes_on e.reason end.knows end.halts)
         | inr g ↦
             let w = past_for x.0 (omega (arith, many, few)) x.1.run x.1.none g in
-            (to, walked_from.endings w.0 to w.1 (end_since to (end_of x.0) w.0 (size_of x.0) w.2 end), e.stops, refl)
+            (to, walked_from.endings w.0 to w.1 (end_kept to (end_of x.0) w.0 (size_of x.0) w.2 end), e.stops, refl)
       ]
 
   -- ---- a store that is offered
@@ -231,7 +234,7 @@ module _ (owns : ℕ → ℕ → Bool) (k : ℕ) (image : Memory) (hs : List Har
     few_before = let joined = length-append o.before (o.next ∷ o.rest) in let few = o.short in omega (arith, joined, few)
 
     at_it : (us : List Move) × Exact us o.before o.at
-    at_it = exact_all o.before o.at o.leads (fit_before owns k image (length hs) h m kept small start sized s o) (let l = few_before in omega (arith, l))
+    at_it = exact_all o.before o.at o.leads (fit_before owns k image (length hs) h m keep small start sized s o) (let l = few_before in omega (arith, l))
 
     abbrev us : List Move
     us = at_it.0
@@ -243,10 +246,10 @@ module _ (owns : ℕ → ℕ → Bool) (k : ℕ) (image : Memory) (hs : List Har
     apart = keeps_at us (let l = few_us in omega (arith, l)) at_it.1.run at_it.1.none
 
     pub keeps_so : Keeps owns (length hs) s
-    keeps_so = offered_keeps owns k image (length hs) h m kept small start sized s o (end_of us) apart at_it.1.stands
+    keeps_so = offered_keeps owns k image (length hs) h m keep small start sized s o (end_of us) apart at_it.1.stands
 
     next_it : (u : Move) × (u.access ≡ o.next.access) × (u.time ≡ passed (is_shared owns) m o.next.time) × Exact (us ++ u ∷ []) (o.before ++ o.next ∷ []) (moved h m o.at o.next)
-    next_it = exact_step us o.before o.at o.next few_before o.leads o.decodes o.acts o.stands (fit_behind owns k image (length hs) h m kept small start sized s o) at_it.1
+    next_it = exact_step us o.before o.at o.next few_before o.leads o.decodes o.acts o.stands (fit_behind owns k image (length hs) h m keep small start sized s o) at_it.1
 
     abbrev u : Move
     u = next_it.0
@@ -257,7 +260,7 @@ module _ (owns : ℕ → ℕ → Bool) (k : ℕ) (image : Memory) (hs : List Har
         let parts = length-append o.before (o.next ∷ []) in
         let few = o.short in
         exact_along (us ++ u ∷ []) (o.before ++ o.next ∷ []) (moved h m o.at o.next) (runs-more (run_start start) o.at o.before o.next o.leads o.decodes o.acts o.stands) next_it.3
-        o.rest o.state o.runs (fit_on owns k image (length hs) h m kept small start sized s o) (omega (arith, joined, parts, few))
+        o.rest o.state o.runs (fit_on owns k image (length hs) h m keep small start sized s o) (omega (arith, joined, parts, few))
 
     abbrev xs : List Move
     xs = rest_it.0
@@ -271,7 +274,7 @@ module _ (owns : ℕ → ℕ → Bool) (k : ℕ) (image : Memory) (hs : List Har
 
     module _ (public : is_own owns h s.address ≡ false) where
       u_public : is_private owns h u.access ≡ false
-      u_public = ap (is_private owns h) next_it.1 ∙ next_apart owns k image (length hs) h m kept small start sized s o (end_of us) apart at_it.1.stands public
+      u_public = ap (is_private owns h) next_it.1 ∙ next_apart owns k image (length hs) h m keep small start sized s o (end_of us) apart at_it.1.stands public
 
       u_stores : writing u.access ≡ true
       u_stores = ap writing next_it.1 ∙ o.stores
@@ -282,16 +285,16 @@ module _ (owns : ℕ → ℕ → Bool) (k : ℕ) (image : Memory) (hs : List Har
       u_there : Contains (us ++ u ∷ xs) u
       u_there = Contains-append_right us (u ∷ xs) u (0, omega arith, refl)
 
-      offers : (w : Spot) → StandsForApart (drop b short) w (spot_since b (end_of us)) → Contains ps w →
+      offers : (w : Spot) → StandsForApart (kept stays short) w (spot_kept stays short (end_of us)) → Contains ps w →
           Contains offered s ⊎
-          ((v : Move) → w.place.count < k → MovesApart owns image h (drop b short) (memory_of (take b short) opening) (spot_with w s) v → is_private owns h v.access ≡ false → writing v.access ≡ true →
-          v.time ≡ length (drop b short) + 1 → LeadsOn owns h (drop b short) ps (spot_with w s) v)
+          ((v : Move) → w.place.count < k → MovesApart owns image h (kept stays short) (memory_of (laid stays short) opening) (spot_with w s) v → is_private owns h v.access ≡ false → writing v.access ≡ true →
+          v.time ≡ length (kept stays short) + 1 → LeadsOn owns h (kept stays short) ps (spot_with w s) v)
       offers w stands there =
           walked_from.offers w s there (stands.next ∙ at_it.1.stands.next) public
-          (offers_since image h b short opening served.within (end_of us).place.state w.place.state (size_of us) stands.state s
-          (offers_apart owns k image (length hs) h m kept small start sized s o (end_of us) apart at_it.1.stands public))
+          (offers_kept image h stays short opening served.within served.free (end_of us).place.state w.place.state (size_of us) stands.state s
+          (offers_apart owns k image (length hs) h m keep small start sized s o (end_of us) apart at_it.1.stands public))
 
-      from_past : GoesPast owns h b (length short) short (first_spot start) (us ++ u ∷ xs) (n.spots h) → Contains offered s
+      from_past : GoesPast owns h stays (length short) short (first_spot start) (us ++ u ∷ xs) (n.spots h) → Contains offered s
       from_past g =
           let p = parted g.before g.rest us xs u g.joined (λ c. let l = g.stores u c u_stores u_public in let e = u_late in omega (arith, l, e)) in
           let mid = p.0 in
@@ -299,13 +302,13 @@ module _ (owns : ℕ → ℕ → Bool) (k : ℕ) (image : Memory) (hs : List Har
           let here : end_of us ≡ spots_after owns h short a mid = ap end_of p.1 ∙ spots_joined owns h short g.before mid (first_spot start) in
           let run_at = subst (RunsApart owns image h short opening (first_spot start)) p.1 at_it.1.run in
           let none_at = subst (NoneLost owns h short (first_spot start)) p.1 at_it.1.none in
-          let behind = subst (AreBehind owns h b short a) p.2 g.behind in
+          let behind = subst (AreOfThoseKept owns h stays short a) p.2 g.behind in
           let counted = count_after owns h short g.before (first_spot start) in
           let parts = ap length p.1 ∙ length-append g.before mid in
           let few = few_us in
           let w = subst For (sym here)
-          (cover_from owns k image (length hs) h b short opening served.within shared n.spots offered ends ps walked_from mid a g.spot (size_of g.before) g.there (g.stands (drop b short))
-          (omega (arith, counted, parts, few)) (run_behind owns h short image opening g.before mid (first_spot start) run_at) (behind_before owns h short b mid (u ∷ xs) a behind)
+          (cover_from owns k image (length hs) h stays short opening served.within served.free shared n.spots offered ends ps walked_from mid a g.spot (size_of g.before) g.there (g.stands (kept stays short))
+          (omega (arith, counted, parts, few)) (run_behind owns h short image opening g.before mid (first_spot start) run_at) (kept_until owns h short stays mid (u ∷ xs) a behind)
           (none_behind owns h short g.before mid (first_spot start) none_at)) in
           elim (offers w.0 w.2 w.1) [
             | inl there ↦ there
@@ -313,24 +316,24 @@ module _ (owns : ℕ → ℕ → Bool) (k : ℕ) (image : Memory) (hs : List Har
                 let q = end_of us in
                 let run = run_with owns h short s image opening (u ∷ xs) q (run_behind owns h short image opening us (u ∷ xs) (first_spot start) whole.run) in
                 let none = none_with owns h short s (u ∷ xs) q (none_behind owns h short us (u ∷ xs) (first_spot start) whole.none) in
-                let on = behind_with owns h short s b (u ∷ xs) q (subst (λ (z : Spot). AreBehind owns h b short z (u ∷ xs)) (sym here) (behind_behind owns h short b mid (u ∷ xs) a behind)) in
-                let stands : StandsForApart (drop b short) (spot_with w.0 s) (spot_since b (spot_with q s)) = record { state = w.2.state; count = w.2.count; paid = w.2.paid; next = refl; constant = w.2.constant } in
+                let on = of_kept_with owns h short s stays (u ∷ xs) q (subst (λ (z : Spot). AreOfThoseKept owns h stays short z (u ∷ xs)) (sym here) (kept_behind owns h short stays mid (u ∷ xs) a behind)) in
+                let stands : StandsForApart (kept stays short) (spot_with w.0 s) (spot_kept stays short (spot_with q s)) = record { state = w.2.state; count = w.2.count; paid = w.2.paid; next = refl; constant = w.2.constant } in
                 let count = count_after owns h short us (first_spot start) in
                 let all = few_whole in
                 let size = length-append us (u ∷ xs) in
-                let first = cover_one owns k image (length hs) h b short opening served.within shared n.spots offered ends ps walked_from (spot_with q s) (spot_with w.0 s) u (size_of us)
+                let first = cover_one owns k image (length hs) h stays short opening served.within served.free shared n.spots offered ends ps walked_from (spot_with q s) (spot_with w.0 s) u (size_of us)
                 (omega (arith, count, few)) stands run.0 on.0 (first_kept owns h short xs (spot_after owns h short (spot_with q s) u) none.1)
                 (λ v is small does. later_on v small does (ap (is_private owns h) is.access ∙ u_public) (ap writing is.access ∙ u_stores)
-                (let t = is.time in let e = u_late in let d = length-drop b short in let within = served.within in omega (arith, t, e, d, within))) in
+                (is.time ∙ ap (kept_before stays) u_late ∙ kept_later stays short served.within)) in
                 let one = after_count owns h short (spot_with q s).place u in
-                let last = cover owns k image (length hs) h b short opening served.within shared n.spots offered ends ps walked_from xs (spot_after owns h short (spot_with q s) u) first.0
+                let last = cover owns k image (length hs) h stays short opening served.within served.free shared n.spots offered ends ps walked_from xs (spot_after owns h short (spot_with q s) u) first.0
                 (after_size owns h short (spot_with q s).place u ∙ size_of us) first.1 first.2 (omega (arith, one, count, all, size)) run.1 on.1 none.1 in
                 let to : spots_after owns h short (spot_with q s) (u ∷ xs) ≡ spot_with (end_of (us ++ u ∷ xs)) s =
                 spots_with owns h short s (u ∷ xs) q ∙ ap (λ (z : Spot). spot_with z s) (sym (spots_joined owns h short us (u ∷ xs) (first_spot start))) in
-                let ended : StandsForApart (drop b short) last.0 (spot_since b (spot_with (end_of (us ++ u ∷ xs)) s)) = subst (λ (z : Spot). StandsForApart (drop b short) last.0 (spot_since b z)) to last.2 in
+                let ended : StandsForApart (kept stays short) last.0 (spot_kept stays short (spot_with (end_of (us ++ u ∷ xs)) s)) = subst (λ (z : Spot). StandsForApart (kept stays short) last.0 (spot_kept stays short z)) to last.2 in
                 walked_from.grows last.0 s last.1 ended.next
-                (paid_since (spot_with (end_of (us ++ u ∷ xs)) s) last.0 ended
-                (paid_apart owns k image (length hs) h m kept small start sized (end_of (us ++ u ∷ xs)) (o.before ++ o.next ∷ o.rest) o.state None whole.stands o.pays))
+                (paid_kept (spot_with (end_of (us ++ u ∷ xs)) s) last.0 ended
+                (paid_apart owns k image (length hs) h m keep small start sized (end_of (us ++ u ∷ xs)) (o.before ++ o.next ∷ o.rest) o.state None whole.stands o.pays))
           ]
 
       pub offered_so : Contains offered s
@@ -345,15 +348,9 @@ module _ (owns : ℕ → ℕ → Bool) (k : ℕ) (image : Memory) (hs : List Har
 memory_served : (owns : ℕ → ℕ → Bool) (k : ℕ) (image : Memory) (hs : List Hart) (n : Node) (m : List Stored) → IsServed owns k image hs n m → (x : ℕ) →
     memory_of n.stores n.memory x ≡ memory_of m (opening_bytes image) x
 memory_served owns k image hs n m served x =
-    let b = served.first in
-    let within = served.within in
-    let many = length-drop served.first m in
-    let all : served.first + length (drop served.first m) ≡ length m = omega (arith, many, within) in
     ap (λ (us : List Stored). memory_of us n.memory x) served.stores
-    ∙ ap (λ (f : ℕ → ℕ). memory_of (drop served.first m) f x) (fun_ext served.memory)
-    ∙ ap (byte_at (drop served.first m) (memory_of (take served.first m) (opening_bytes image)) x) (last_drop m x served.first (length (drop served.first m)))
-    ∙ byte_since m (opening_bytes image) x served.first (length (drop served.first m)) within
-    ∙ ap (λ (i : ℕ). byte_at m (opening_bytes image) x (last_place m x i)) all
+    ∙ ap (λ (f : ℕ → ℕ). memory_of (kept served.stays m) f x) (fun_ext served.memory)
+    ∙ memory_kept served.stays m (opening_bytes image) x served.within served.free
 
 module _ (owns : ℕ → ℕ → Bool) (k : ℕ) (image : Memory) (hs : List Hart) (see : List Range) (nodes : List Node) (table : List Ending) (first : Node) (fresh : AreFresh hs) (nobodys : AreNobodys owns (length hs) see)
     (begins : Contains nodes first) (serves : IsServed owns k image hs first []) (looked : (n : Node) → Contains nodes n → IsLookedThroughFrom owns k image hs see nodes table n) where
@@ -376,18 +373,18 @@ module _ (owns : ℕ → ℕ → Bool) (k : ℕ) (image : Memory) (hs : List Har
       by_owner : are_kept owns (length hs) (m ++ s ∷ []) ≡ true →
           (is_own owns h s.address ≡ false → (t : Node) × Contains nodes t × ((l : List Stored) → IsServed owns k image hs whole.node l → IsServed owns k image hs t (l ++ s ∷ []))) →
           (b : Bool) → is_own owns h s.address ≡ b → IsWhole (m ++ s ∷ [])
-      by_owner kept next true e = record {
+      by_owner keep next true e = record {
         node = whole.node;
         there = whole.there;
         served = subst (IsServed owns k image hs whole.node) (sym (those_next owns m h s o.offers.hart true e ∙ append-nil (those (is_shared owns) m))) whole.served;
-        kept = kept;
+        kept = keep;
       }
-      by_owner kept next false e =
+      by_owner keep next false e =
           let t = next e in record {
             node = t.0;
             there = t.1;
             served = subst (IsServed owns k image hs t.0) (sym (those_next owns m h s o.offers.hart false e)) (t.2 (those (is_shared owns) m) whole.served);
-            kept = kept;
+            kept = keep;
           }
 
   closed : IsClosed k image hs IsWhole

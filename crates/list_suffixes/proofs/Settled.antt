@@ -12,15 +12,15 @@ use Rattle.all_endings.specs.StoreLists.{Stored, has_byte, no_store}
 use Rattle.private_bytes.specs.Ahead.{IsAhead}
 use Rattle.private_bytes.specs.Owners.{is_private}
 use Rattle.private_bytes.specs.PrivateWalks.{IsLost, Spot, spot_after}
-use Rattle.list_suffixes.specs.ApartRuns.{AreBehind, NoneLost, RunsApart, StandsForAlways, spots_after}
+use Rattle.list_suffixes.specs.ApartRuns.{AreOfThoseKept, NoneLost, RunsApart, StandsForAlways, spots_after}
+use Rattle.list_suffixes.specs.KeptMoves.{IsMoveKept, state_after}
 use Rattle.list_suffixes.specs.Serving.{GoesPast, IsOnItsWay, Node, StoreWithin}
 use Rattle.list_suffixes.specs.SettledWalks.{AreAhead, IsKnown, IsSettledWalk, SettledWalksComePast}
-use Rattle.list_suffixes.specs.Since.{AreShared, spot_since}
-use Rattle.list_suffixes.specs.SinceMoves.{IsMoveSince, state_after}
-use Rattle.list_suffixes.proofs.Past.{halts_back, keeps_back, knows_back, stands_on, stands_since}
+use Rattle.list_suffixes.specs.Staying.{AreShared, spot_kept}
+use Rattle.list_suffixes.proofs.KeptRuns.{after_count, after_next, after_state, constant_same, paid_from, paid_new, paid_old}
+use Rattle.list_suffixes.proofs.Past.{halts_back, keeps_back, knows_back, spot_longer, stands_kept, stands_on}
 use Rattle.list_suffixes.proofs.Serving.{first_kept}
 use Rattle.list_suffixes.proofs.Shorter.{moves_shorter}
-use Rattle.list_suffixes.proofs.SinceRuns.{after_count, after_next, after_state, constant_same, paid_from, paid_new, paid_old}
 
 -- whether a move is known
 known_or_not : (owns : ℕ → ℕ → Bool) (h : ℕ) (m : List Stored) (v : Move) → IsKnown owns h m v ⊎ (IsKnown owns h m v → ⊥)
@@ -38,7 +38,8 @@ known_or_not owns h m v = by_tests (operates v) refl (is_private owns h v.access
       | inl l ↦ inr (λ known. let i = (known o q).0 in omega (arith, i, l))
     ]
 
-module _ (owns : ℕ → ℕ → Bool) (k : ℕ) (image : Memory) (harts h c : ℕ) (n : Node) (ps new : List Spot) (walk : IsSettledWalk owns k image harts h c n ps new) (e : List Stored) (shared : AreShared owns h (n.stores ++ e)) where
+module _ (owns : ℕ → ℕ → Bool) (k : ℕ) (image : Memory) (harts h : ℕ) (stays : List Bool) (n : Node) (ps new : List Spot) (within : length stays ≤ length n.stores) (walk : IsSettledWalk owns k image harts h stays n ps new)
+    (e : List Stored) (shared : AreShared owns h (n.stores ++ e)) where
   abbrev whole : List Stored
   whole = n.stores ++ e
 
@@ -76,7 +77,7 @@ module _ (owns : ℕ → ℕ → Bool) (k : ℕ) (image : Memory) (harts h c : �
       by_test true d = absurd (let i = (stands n.stores).paid lost.store lost.within d in let j = lost.owed in cc)
 
   -- what a known move leads to
-  stands_known : (p q : Spot) (v u : Move) → IsMoveSince 0 v u → IsAhead (state_after owns h n.stores p.place.state u) (state_after owns h whole q.place.state v) → StandsForAlways p q →
+  stands_known : (p q : Spot) (v u : Move) → IsMoveKept [] n.stores v u → IsAhead (state_after owns h n.stores p.place.state u) (state_after owns h whole q.place.state v) → StandsForAlways p q →
       StandsForAlways (spot_after owns h n.stores p u) (spot_after owns h whole q v)
   stands_known p q v u is ahead stands l = record {
     state = subst (λ (s : RunState). IsAhead s (spot_after owns h whole q v).place.state) (sym (after_state owns h n.stores p.place u))
@@ -94,17 +95,18 @@ module _ (owns : ℕ → ℕ → Bool) (k : ℕ) (image : Memory) (harts h c : �
   }
 
   abbrev Comes : List Move → Spot → Type 0
-  Comes vs q = IsOnItsWay owns image harts h (length n.stores) vs (spots_after owns h whole q vs) ⊎ GoesPast owns h c (length n.stores) whole q vs new
+  Comes vs q = IsOnItsWay owns image harts h (length n.stores) vs (spots_after owns h whole q vs) ⊎ GoesPast owns h stays (length n.stores) whole q vs new
 
   -- a spot at which the run comes past
-  past_here : (vs : List Move) (w q : Spot) → StandsForAlways w q → AreAhead new (spot_since c w) → AreBehind owns h c whole q vs → GoesPast owns h c (length n.stores) whole q vs new
+  past_here : (vs : List Move) (w q : Spot) → StandsForAlways w q → AreAhead new (spot_kept stays n.stores w) → AreOfThoseKept owns h stays whole q vs → GoesPast owns h stays (length n.stores) whole q vs new
   past_here vs w q stands t behind = record {
     before = [];
     rest = vs;
     joined = refl;
     spot = t.0;
     there = t.1;
-    stands = λ l. stands_on t.0 (spot_since c w) (spot_since c q) l (t.2 l) (stands_since c w q stands l);
+    stands = subst (StandsForAlways t.0) (sym (spot_longer stays n.stores e within q))
+        (λ l. stands_on t.0 (spot_kept stays n.stores w) (spot_kept stays n.stores q) l (t.2 l) (stands_kept stays n.stores w q stands l));
     stores = λ v there. absurd (let l = there.1 in omega (arith, l));
     behind = behind;
   }
@@ -174,6 +176,6 @@ module _ (owns : ℕ → ℕ → Bool) (k : ℕ) (image : Memory) (harts h c : �
   ]
 
 pub settled_come : SettledWalksComePast
-settled_come owns k image harts h c n ps new walk p there e vs shared few run none =
+settled_come owns k image harts h stays n ps new within walk p there e vs shared few run none =
     let w = walk.begins p there in
-    comes owns k image harts h c n ps new walk e shared vs p w.0 w.1 w.2 few run none
+    comes owns k image harts h stays n ps new within walk e shared vs p w.0 w.1 w.2 few run none

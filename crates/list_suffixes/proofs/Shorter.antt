@@ -1,7 +1,7 @@
 -- A move that is known against a list of stores is one against this list, whatever stands behind it.
 use Rattle.std.proofs.Common.{◌≡◌, ℕ, zero, suc, ◌+◌, ◌-◌, ◌<◌, ◌≤◌, ◌&&◌, ◌||◌, max, min, Bool, true, false, if◌then◌else◌, List, [], ◌∷◌, ◌++◌, length, map, get_or, Option, Some, None, option_map, refl, sym, ap, ◌∙◌, subst, inl, inr, arith}
 use Rattle.std.proofs.Math.Path.{fun_ext}
-use Rattle.std.proofs.lemmas.Bool.{and_parts}
+use Rattle.std.proofs.lemmas.Bool.{and_parts, cases_lt}
 use Rattle.std.proofs.lemmas.List.{get_or_append_left, length-append}
 use Rattle.pages.specs.declared.access.Width.{Width}
 use Rattle.pages.specs.Memory.{Memory, byte_of}
@@ -12,7 +12,6 @@ use Rattle.hart_step.specs.DecodedCode.{decoded}
 use Rattle.memory_order.specs.Operations.{covers, is_amo, is_plain_store}
 use Rattle.memory_order.specs.Registers.{registers_of}
 use Rattle.rule_checker.specs.CarriedBounds.{AreRegisters, operand_bound}
-use Rattle.rule_checker.specs.declared.annotated.KindBounds.{KindBounds}
 use Rattle.rule_checker.specs.declared.carried.Carried.{Carried}
 use Rattle.execution.specs.Progressing.{step_event}
 use Rattle.all_endings.specs.HartRuns.{Acts, Gets, IsPlaced, IsRead, Stands, branches, calls, exchanges, exchanges-unknown, fails, forwarded, gets, gets-later, jumps, orders, puts, puts-unknown, reads, remembered, reserves, succeeds}
@@ -27,56 +26,51 @@ use Rattle.all_endings.proofs.Times.{carried_below_after, kinds_below_after}
 use Rattle.private_bytes.specs.Ahead.{IsAhead}
 use Rattle.private_bytes.specs.Owners.{is_private}
 use Rattle.private_bytes.specs.PrivateMoves.{ActsApart, keeps, moved_privately, recalls, shares, without_place}
+use Rattle.private_bytes.specs.PrivateWalks.{Spot}
 use Rattle.private_bytes.proofs.Mirroring.{ahead_on, lower_ahead}
 use Rattle.list_suffixes.specs.SettledWalks.{IsKnown}
-use Rattle.list_suffixes.specs.Since.{AreShared, carried_since, kinds_since, own_since, state_since}
-use Rattle.list_suffixes.specs.SinceMoves.{IsMoveSince, state_after}
-use Rattle.list_suffixes.proofs.SinceMoves.{moves_since}
+use Rattle.list_suffixes.specs.ApartRuns.{StandsForAlways}
+use Rattle.list_suffixes.specs.KeptMoves.{IsMoveKept, IsOfThoseKept, state_after}
+use Rattle.list_suffixes.specs.Staying.{AreShared, carried_kept, kept_before, own_kept, place_kept, spot_kept, state_kept}
+use Rattle.list_suffixes.proofs.KeptMoves.{moves_kept}
+use Rattle.list_suffixes.proofs.Staying.{place_laid, place_stays}
 
--- ---- times that are counted from 0 on
+-- ---- where none is laid into memory
 
-zero_times : (xs : List ℕ) → map (λ t. t - 0) xs ≡ xs
-zero_times [] = refl
-zero_times (x ∷ xs) = let e : x - 0 ≡ x = omega arith in ap (λ (y : ℕ). y ∷ map (λ t. t - 0) xs) e ∙ ap (λ (ys : List ℕ). x ∷ ys) (zero_times xs)
+same_times : (xs : List ℕ) → map (kept_before []) xs ≡ xs
+same_times [] = refl
+same_times (x ∷ xs) = ap (λ (ys : List ℕ). x ∷ ys) (same_times xs)
 
-less_zero : (f : ℕ → ℕ) → (λ (x : ℕ). f x - 0) ≡ f
-less_zero f = fun_ext (λ x. let e : f x - 0 ≡ f x = omega arith in e)
+same_place : (m : List Stored) (x p : ℕ) → place_kept [] m x p ≡ p
+same_place m x p = elim (cases_lt 0 p) [
+  | inl some ↦ place_stays [] m x p some
+  | inr none ↦ let z = place_laid [] m x p none in omega (arith, z, none)
+]
 
-own_zero : (o : Option OwnByte) → option_map (own_since 0) o ≡ o
-own_zero None = refl
-own_zero (Some o) = ap (λ (q : OwnByte). Some q) (by_parts (o.place - 0) o.place (o.needs - 0) o.needs (omega arith) (omega arith))
-  where
-    by_parts : (i j u w : ℕ) → i ≡ j → u ≡ w → (record o { place = i; needs = u }) ≡ (record o { place = j; needs = w })
-    by_parts i j u w e f = ap (λ (x : ℕ). record o { place = x; needs = u }) e ∙ ap (λ (x : ℕ). record o { place = j; needs = x }) f
+same_own : (m : List Stored) (x : ℕ) (o : Option OwnByte) → option_map (own_kept [] m x) o ≡ o
+same_own m x None = refl
+same_own m x (Some o) = ap (λ (i : ℕ). Some (record o { place = i })) (same_place m x o.place)
 
-abbrev kinds_of : ℕ → ℕ → ℕ → ℕ → ℕ → ℕ → ℕ → ℕ → KindBounds
-kinds_of l s a n ll ls sl ss = record { loads = l; stores = s; acquires = a; annotated = n; load_load = ll; load_store = ls; store_load = sl; store_store = ss }
+same_carried : (c : Carried) → carried_kept [] c ≡ c
+same_carried c = ap (λ (rs : List ℕ). record c { registers = rs }) (same_times c.registers)
 
-kinds_same : (l s a n ll ls sl ss l2 s2 a2 n2 ll2 ls2 sl2 ss2 : ℕ) → l ≡ l2 → s ≡ s2 → a ≡ a2 → n ≡ n2 → ll ≡ ll2 → ls ≡ ls2 → sl ≡ sl2 → ss ≡ ss2 →
-    kinds_of l s a n ll ls sl ss ≡ kinds_of l2 s2 a2 n2 ll2 ls2 sl2 ss2
-kinds_same l s a n ll ls sl ss l2 s2 a2 n2 ll2 ls2 sl2 ss2 e1 e2 e3 e4 e5 e6 e7 e8 = cc
+state_none : (m : List Stored) (a : RunState) → state_kept [] m a ≡ a
+state_none m a = ap (λ (c : Carried). record (state_kept [] m a) { carried = c }) (same_carried a.carried)
+    ∙ ap (λ (f : ℕ → ℕ). record (state_kept [] m a) { carried = a.carried; seen = f }) (fun_ext (λ x. same_place m x (a.seen x)))
+    ∙ ap (λ (f : ℕ → Option OwnByte). record a { own = f; sources = λ x. place_kept [] m x (a.sources x) }) (fun_ext (λ x. same_own m x (a.own x)))
+    ∙ ap (λ (f : ℕ → ℕ). record a { sources = f }) (fun_ext (λ x. same_place m x (a.sources x)))
 
-kinds_zero : (k : KindBounds) → kinds_since 0 k ≡ k
-kinds_zero k = kinds_same (k.loads - 0) (k.stores - 0) (k.acquires - 0) (k.annotated - 0) (k.load_load - 0) (k.load_store - 0) (k.store_load - 0) (k.store_store - 0)
-    k.loads k.stores k.acquires k.annotated k.load_load k.load_store k.store_load k.store_store (omega arith) (omega arith) (omega arith) (omega arith) (omega arith) (omega arith) (omega arith) (omega arith)
+pub spot_none : (m : List Stored) (p : Spot) → spot_kept [] m p ≡ p
+spot_none m p = ap (λ (s : RunState). record p { place = record p.place { state = s } }) (state_none m p.place.state)
 
-abbrev carried_of : List ℕ → ℕ → ℕ → Carried
-carried_of rs s a = record { registers = rs; steered = s; addressed = a }
-
-carried_same : (rs rs2 : List ℕ) (s s2 a a2 : ℕ) → rs ≡ rs2 → s ≡ s2 → a ≡ a2 → carried_of rs s a ≡ carried_of rs2 s2 a2
-carried_same rs rs2 s s2 a a2 e f g = cc
-
-carried_zero : (c : Carried) → carried_since 0 c ≡ c
-carried_zero c = carried_same (map (λ t. t - 0) c.registers) c.registers (c.steered - 0) c.steered (c.addressed - 0) c.addressed (zero_times c.registers) (omega arith) (omega arith)
-
-pub since_zero : (a : RunState) → state_since 0 a ≡ a
-since_zero a = ap (λ (k : KindBounds). record (state_since 0 a) { kinds = k }) (kinds_zero a.kinds)
-    ∙ ap (λ (c : Carried). record (state_since 0 a) { kinds = a.kinds; carried = c }) (carried_zero a.carried)
-    ∙ ap (λ (f : ℕ → ℕ). record (state_since 0 a) { kinds = a.kinds; carried = a.carried; touched = f }) (less_zero a.touched)
-    ∙ ap (λ (f : ℕ → ℕ). record (state_since 0 a) { kinds = a.kinds; carried = a.carried; touched = a.touched; seen = f }) (less_zero a.seen)
-    ∙ ap (λ (f : ℕ → Option OwnByte). record a { own = f; reserved = a.reserved - 0; sources = λ x. a.sources x - 0 }) (fun_ext (λ x. own_zero (a.own x)))
-    ∙ ap (λ (i : ℕ). record a { reserved = i; sources = λ x. a.sources x - 0 }) (let e : a.reserved - 0 ≡ a.reserved = omega arith in e)
-    ∙ ap (λ (f : ℕ → ℕ). record a { sources = f }) (less_zero a.sources)
+pub stands_itself : (p : Spot) → length p.place.state.carried.registers ≡ 32 → StandsForAlways p p
+stands_itself p sized m = record {
+  state = lower_ahead p.place.state p.place.state (lower_self p.place.state sized);
+  count = omega arith;
+  paid = λ j l e. e;
+  next = refl;
+  constant = λ e. e;
+}
 
 -- ---- the same stores
 
@@ -279,15 +273,18 @@ module _ (owns : ℕ → ℕ → Bool) (image : Memory) (h : ℕ) (m e : List St
 -- what is known against a list is done against it by each state that is ahead
 pub moves_shorter : (owns : ℕ → ℕ → Bool) (image : Memory) (h : ℕ) (m e : List Stored) (opening : ℕ → ℕ) (a p : RunState) (v : Move) → AreShared owns h m → length a.registers ≡ 32 → IsAhead p a →
     decoded image a.pc ≡ Some v.instruction → IsKnown owns h m v → ActsApart owns image h (m ++ e) opening (IsPlaced h (m ++ e)) a v → (operates v ≡ true → Stands a v) →
-    (u : Move) × IsMoveSince 0 v u × ActsApart owns image h m opening (IsPlaced h m) p u × (operates u ≡ true → Stands p u) ×
+    (u : Move) × IsMoveKept [] m v u × ActsApart owns image h m opening (IsPlaced h m) p u × (operates u ≡ true → Stands p u) ×
     IsAhead (state_after owns h m p u) (state_after owns h (m ++ e) a v)
 moves_shorter owns image h m e opening a p v shared size ahead at known doing stand =
-    let s = moves_since owns image h 0 m opening a p v (omega arith) shared size (subst (IsAhead p) (sym (since_zero a)) ahead) at (λ op public. inl (omega arith))
+    let s = moves_kept owns image h [] m opening a p v (omega arith) (λ j n x l stay out. absurd (cc)) shared size (subst (IsAhead p) (sym (state_none m a)) ahead) at (λ op public. all_stay)
     (apart_left owns image h m e opening a v known doing) stand in
     let lower = sooner_lower owns image h m e opening a v known ahead.carried.size (decoded_fits image a.pc v.instruction at) in (
       s.0,
       s.1,
       s.2,
       s.3,
-      ahead_on (state_after owns h m p s.0) (state_after owns h m a v) (state_after owns h (m ++ e) a v) (subst (IsAhead (state_after owns h m p s.0)) (since_zero (state_after owns h m a v)) s.4) (lower_ahead (state_after owns h m a v) (state_after owns h (m ++ e) a v) lower),
+      ahead_on (state_after owns h m p s.0) (state_after owns h m a v) (state_after owns h (m ++ e) a v) (subst (IsAhead (state_after owns h m p s.0)) (state_none m (state_after owns h m a v)) s.4) (lower_ahead (state_after owns h m a v) (state_after owns h (m ++ e) a v) lower),
     )
+  where
+    all_stay : IsOfThoseKept [] m a v
+    all_stay = record { stores = λ store. refl; current = λ load known n x out. absurd (cc); own = λ load o x wet own late inside. absurd (omega (arith, late, inside)) }

@@ -1,8 +1,8 @@
 pub mod ApartRuns
 pub mod CurrentRuns
+pub mod KeptMoves
 pub mod LateDebts
 pub mod NodeWalks
 pub mod Serving
 pub mod SettledWalks
-pub mod Since
-pub mod SinceMoves
+pub mod Staying

@@ -1,27 +1,27 @@
 //! Laws of the definitions, each the contract of a function that does nothing.
 
-ghost use Rattle.list_suffixes.specs.ApartRuns.{RunsAreSince};
-ghost use Rattle.list_suffixes.specs.CurrentRuns.{CurrentRunsAreBehind};
+ghost use Rattle.list_suffixes.specs.ApartRuns.{RunsAreKept};
+ghost use Rattle.list_suffixes.specs.CurrentRuns.{CurrentRunsAreOfThoseKept};
 ghost use Rattle.list_suffixes.specs.LateDebts.{LateDebtsAreLost, TouchedDebtsAreLost};
 ghost use Rattle.list_suffixes.specs.NodeWalks.{NodeTablesAreWhole};
 ghost use Rattle.list_suffixes.specs.Serving.{FirstNodeServes, LongerListsAreServed, RaisedNodesServe, StandingNodesServe};
 ghost use Rattle.list_suffixes.specs.SettledWalks.{SettledWalksComePast};
-ghost use Rattle.list_suffixes.specs.SinceMoves.{MovesAreSince};
+ghost use Rattle.list_suffixes.specs.KeptMoves.{MovesAreKept};
 
-/// A move that does none of the first stores of a list, and reads what they left, is one against the stores behind, from each state that is
-/// ahead.
-pub fn moves_are_since()
-    ensures { MovesAreSince }
+/// A move that does none of the stores of a list that are laid into memory, and reads what they left, is one against those that stay, from each
+/// state that is ahead.
+pub fn moves_are_kept()
+    ensures { MovesAreKept }
 {}
 
 /// So is a run of such moves, from each spot that stands for where it begins, and what it comes to stands for where it ends.
-pub fn runs_are_since()
-    ensures { RunsAreSince }
+pub fn runs_are_kept()
+    ensures { RunsAreKept }
 {}
 
-/// A run whose stores stand behind the first ones of a list, and whose loads that stand before read what these left, is behind them.
-pub fn current_runs_are_behind()
-    ensures { CurrentRunsAreBehind }
+/// A run whose stores stay in a list, and whose loads read what the others left, is of those that stay.
+pub fn current_runs_are_of_those_kept()
+    ensures { CurrentRunsAreOfThoseKept }
 {}
 
 /// Where harts begin serves the empty list.
@@ -39,7 +39,7 @@ pub fn standing_nodes_serve()
     ensures { StandingNodesServe }
 {}
 
-/// A node whose first stores are put behind it serves what it served, if the runs of harts come past its new spots.
+/// A node of which some stores are laid into memory serves what it served, if the runs of harts come past its new spots.
 pub fn raised_nodes_serve()
     ensures { RaisedNodesServe }
 {}

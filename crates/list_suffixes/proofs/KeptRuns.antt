@@ -1,5 +1,5 @@
--- Runs against the stores behind the first b of a list.
-use Rattle.std.proofs.Common.{◌≡◌, ℕ, ◌+◌, ◌≤◌, ◌==◌, ◌&&◌, ◌||◌, ◌⊎◌, not, Bool, true, false, if◌then◌else◌, List, [], ◌∷◌, length, take, drop, Some, refl, sym, ap, ◌∙◌, subst, inl, inr, arith}
+-- Runs against the stores of a list that stay.
+use Rattle.std.proofs.Common.{◌≡◌, ℕ, ◌+◌, ◌≤◌, ◌==◌, ◌&&◌, ◌||◌, ◌⊎◌, not, Bool, true, false, if◌then◌else◌, List, [], ◌∷◌, length, Some, refl, sym, ap, ◌∙◌, subst, inl, inr, arith}
 use Rattle.std.proofs.lemmas.Bool.{and_parts, eq-eqb, eqb-true}
 use Rattle.pages.specs.Memory.{Memory}
 use Rattle.rv64_decode.specs.declared.instruction.Instr.{Instr}
@@ -18,10 +18,11 @@ use Rattle.private_bytes.specs.Owners.{is_private}
 use Rattle.private_bytes.specs.PrivateMoves.{moved_privately}
 use Rattle.private_bytes.specs.PrivateWalks.{Spot, StandsForApart, constant_after, looks_at_none, place_apart, spot_after}
 use Rattle.private_bytes.proofs.Mirroring.{set_size}
-use Rattle.list_suffixes.specs.ApartRuns.{AreBehind, AreMovesSince, RunsApart, RunsAreSince, StandsForAlways, spots_after}
-use Rattle.list_suffixes.specs.Since.{AreShared, spot_since, state_since}
-use Rattle.list_suffixes.specs.SinceMoves.{IsMoveSince, state_after}
-use Rattle.list_suffixes.proofs.SinceMoves.{moves_since}
+use Rattle.list_suffixes.specs.ApartRuns.{AreMovesKept, AreOfThoseKept, RunsApart, RunsAreKept, StandsForAlways, spots_after}
+use Rattle.list_suffixes.specs.KeptMoves.{IsMoveKept, state_after}
+use Rattle.list_suffixes.specs.Staying.{AreShared, MayBeLaid, kept, kept_before, laid, place_before, spot_kept, state_kept}
+use Rattle.list_suffixes.proofs.KeptMoves.{moves_kept}
+use Rattle.list_suffixes.proofs.Staying.{before_kept}
 
 -- ---- what a move leaves of a place
 
@@ -95,19 +96,17 @@ constant_same c d v u same access l e = by_register (answers_to v.instruction ==
     by_register true e = e
     by_register false e = l e
 
-module _ (owns : ℕ → ℕ → Bool) (h b : ℕ) (m n : List Stored) where
-  pub stands_after : (a p : Spot) (v u : Move) → IsMoveSince b v u → IsAhead (state_after owns h n p.place.state u) (state_since b (state_after owns h m a.place.state v)) →
-      (k : List Stored) → StandsForApart k p (spot_since b a) → StandsForApart k (spot_after owns h n p u) (spot_since b (spot_after owns h m a v))
+module _ (owns : ℕ → ℕ → Bool) (h : ℕ) (stays : List Bool) (m n : List Stored) where
+  pub stands_after : (a p : Spot) (v u : Move) → IsMoveKept stays m v u → IsAhead (state_after owns h n p.place.state u) (state_kept stays m (state_after owns h m a.place.state v)) →
+      (k : List Stored) → StandsForApart k p (spot_kept stays m a) → StandsForApart k (spot_after owns h n p u) (spot_kept stays m (spot_after owns h m a v))
   stands_after a p v u is ahead k stands = record {
-    state = subst (λ (s : RunState). IsAhead s (state_since b (place_apart owns h m a.place v).state)) (sym (after_state owns h n p.place u))
-        (subst (λ (s : RunState). IsAhead (state_after owns h n p.place.state u) (state_since b s)) (sym (after_state owns h m a.place v)) ahead);
+    state = subst (λ (s : RunState). IsAhead s (state_kept stays m (place_apart owns h m a.place v).state)) (sym (after_state owns h n p.place u))
+        (subst (λ (s : RunState). IsAhead (state_after owns h n p.place.state u) (state_kept stays m s)) (sym (after_state owns h m a.place v)) ahead);
     count = (let c = stands.count in let d = after_count owns h n p.place u in let e = after_count owns h m a.place v in omega (arith, c, d, e));
-    paid = λ j l paid. elim (paid_from owns h m a.place v (j + b) paid) [
+    paid = λ j l paid. elim (paid_from owns h m a.place v (place_before stays j) paid) [
       | inl old ↦ paid_old owns h n p.place u j (stands.paid j l old)
       | inr new ↦
-          let t = is.time in
-          let z = new.2 in
-          paid_new owns h n p.place u j (ap (is_private owns h) is.access ∙ new.0) (ap stores is.access ∙ new.1) (omega (arith, t, z))
+          paid_new owns h n p.place u j (ap (is_private owns h) is.access ∙ new.0) (ap stores is.access ∙ new.1) (is.time ∙ ap (kept_before stays) new.2 ∙ before_kept stays j)
     ];
     next = after_next owns h n p.place u ∙ stands.next ∙ sym (after_next owns h m a.place v);
     constant = constant_same p.constant a.constant v u is.instruction is.access stands.constant;
@@ -115,23 +114,23 @@ module _ (owns : ℕ → ℕ → Bool) (h b : ℕ) (m n : List Stored) where
 
   -- a run from a, and one from p, spot by spot
   abbrev pub Together : Spot → Spot → List Move → List Move → Type 0
-  Together p a [] [] = StandsForAlways p (spot_since b a)
-  Together p a (u ∷ us) (v ∷ vs) = StandsForAlways p (spot_since b a) × IsMoveSince b v u × Together (spot_after owns h n p u) (spot_after owns h m a v) us vs
+  Together p a [] [] = StandsForAlways p (spot_kept stays m a)
+  Together p a (u ∷ us) (v ∷ vs) = StandsForAlways p (spot_kept stays m a) × IsMoveKept stays m v u × Together (spot_after owns h n p u) (spot_after owns h m a v) us vs
   Together p a _ _ = ⊥
 
-  pub together_ends : (us vs : List Move) (p a : Spot) → Together p a us vs → StandsForAlways (spots_after owns h n p us) (spot_since b (spots_after owns h m a vs))
+  pub together_ends : (us vs : List Move) (p a : Spot) → Together p a us vs → StandsForAlways (spots_after owns h n p us) (spot_kept stays m (spots_after owns h m a vs))
   together_ends [] [] p a t = t
   together_ends (u ∷ us) (v ∷ vs) p a t = together_ends us vs (spot_after owns h n p u) (spot_after owns h m a v) t.2
   together_ends [] (v ∷ vs) p a t = absurd t
   together_ends (u ∷ us) [] p a t = absurd t
 
-  pub together_begins : (us vs : List Move) (p a : Spot) → Together p a us vs → StandsForAlways p (spot_since b a)
+  pub together_begins : (us vs : List Move) (p a : Spot) → Together p a us vs → StandsForAlways p (spot_kept stays m a)
   together_begins [] [] p a t = t
   together_begins (u ∷ us) (v ∷ vs) p a t = t.0
   together_begins [] (v ∷ vs) p a t = absurd t
   together_begins (u ∷ us) [] p a t = absurd t
 
-  pub together_moves : (us vs : List Move) (p a : Spot) → Together p a us vs → AreMovesSince b vs us
+  pub together_moves : (us vs : List Move) (p a : Spot) → Together p a us vs → AreMovesKept stays m vs us
   together_moves [] [] p a t = tt
   together_moves (u ∷ us) (v ∷ vs) p a t = (t.1, together_moves us vs (spot_after owns h n p u) (spot_after owns h m a v) t.2)
   together_moves [] (v ∷ vs) p a t = absurd t
@@ -139,25 +138,26 @@ module _ (owns : ℕ → ℕ → Bool) (h b : ℕ) (m n : List Stored) where
 
 -- ---- runs
 
-module _ (owns : ℕ → ℕ → Bool) (image : Memory) (h b : ℕ) (m : List Stored) (opening : ℕ → ℕ) (within : b ≤ length m) (shared : AreShared owns h m) where
-  pub run_since : (vs : List Move) (a p : Spot) → length a.place.state.registers ≡ 32 → StandsForAlways p (spot_since b a) → RunsApart owns image h m opening a vs → AreBehind owns h b m a vs →
-      (us : List Move) × RunsApart owns image h (drop b m) (memory_of (take b m) opening) p us × Together owns h b m (drop b m) p a us vs
-  run_since [] a p size stands run behind = ([], tt, stands)
-  run_since (v ∷ vs) a p size stands run behind =
+module _ (owns : ℕ → ℕ → Bool) (image : Memory) (h : ℕ) (stays : List Bool) (m : List Stored) (opening : ℕ → ℕ) (within : length stays ≤ length m) (separate : MayBeLaid stays m)
+    (shared : AreShared owns h m) where
+  pub run_kept : (vs : List Move) (a p : Spot) → length a.place.state.registers ≡ 32 → StandsForAlways p (spot_kept stays m a) → RunsApart owns image h m opening a vs → AreOfThoseKept owns h stays m a vs →
+      (us : List Move) × RunsApart owns image h (kept stays m) (memory_of (laid stays m) opening) p us × Together owns h stays m (kept stays m) p a us vs
+  run_kept [] a p size stands run of_kept = ([], tt, stands)
+  run_kept (v ∷ vs) a p size stands run of_kept =
       let does = run.0 in
-      let s = moves_since owns image h b m opening a.place.state p.place.state v within shared size (stands []).state does.decodes behind.0 does.acts does.stands in
-      let more = run_since vs (spot_after owns h m a v) (spot_after owns h (drop b m) p s.0) (after_size owns h m a.place v ∙ size)
-      (λ k. stands_after owns h b m (drop b m) a p v s.0 s.1 s.4 k (stands k)) run.1 behind.1 in (
+      let s = moves_kept owns image h stays m opening a.place.state p.place.state v within separate shared size (stands []).state does.decodes of_kept.0 does.acts does.stands in
+      let more = run_kept vs (spot_after owns h m a v) (spot_after owns h (kept stays m) p s.0) (after_size owns h m a.place v ∙ size)
+      (λ k. stands_after owns h stays m (kept stays m) a p v s.0 s.1 s.4 k (stands k)) run.1 of_kept.1 in (
         s.0 ∷ more.0,
         (record { decodes = ap (decoded image) (stands []).state.pc ∙ does.decodes ∙ ap (λ (i : Instr). Some i) (sym s.1.instruction); acts = s.2; stands = s.3 }, more.1),
         (stands, s.1, more.2),
       )
 
-pub runs_since : RunsAreSince
-runs_since owns image h b m opening a p vs within shared size stands run behind =
-    let r = run_since owns image h b m opening within shared vs a p size stands run behind in (
+pub runs_kept : RunsAreKept
+runs_kept owns image h stays m opening a p vs within separate shared size stands run of_kept =
+    let r = run_kept owns image h stays m opening within separate shared vs a p size stands run of_kept in (
       r.0,
-      together_moves owns h b m (drop b m) r.0 vs p a r.2,
+      together_moves owns h stays m (kept stays m) r.0 vs p a r.2,
       r.1,
-      together_ends owns h b m (drop b m) r.0 vs p a r.2,
+      together_ends owns h stays m (kept stays m) r.0 vs p a r.2,
     )
