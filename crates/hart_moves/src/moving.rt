@@ -84,9 +84,10 @@ fn other_choice(
 ) -> Result<Option<Choice>, OutOfMemory>
     requires none { operation_in (action i.now (filled state.now.registers) state.now.pc) ≡ None }
     requires known { decoded pages.now.memory state.now.pc ≡ Some i.now }
-    ensures found { i.now ≢ Ecall → IfOk result (λ o. (h : ℕ) (m : List Stored) (opening : ℕ → ℕ) (v : Move) →
-        v.instruction ≡ i.now →
-        Acts pages.now.memory h m opening (IsPlaced h m) (state_of state.now) v → IsFound m (state_of state.now) o v) }
+    ensures found { i.now ≢ Ecall → IfOk result (λ o.
+        (h : ℕ) (m : List Stored) (opening : ℕ → ℕ) (v : Move) → v.instruction ≡ i.now →
+        Acts pages.now.memory h m opening (IsPlaced h m) (state_of state.now) v →
+        IsFound m (state_of state.now) o v) }
     ensures fits { IfOk result (λ o. IfSome o (λ c. address_of c.access + bytes_of c.access ≡ 0)) }
 {
     destinations_are_written();

@@ -9,6 +9,7 @@ use Rattle.all_endings.specs.RunStates.{OwnByte, RunState}
 use Rattle.hart_states.proofs.Kept.{carried_equal, kinds_equal}
 use Rattle.private_bytes.specs.Ahead.{IsAhead, OutputTells, OwnAhead, ahead-both, ahead-none, tells-more, tells-nothing}
 use Rattle.private_bytes.specs.PrivateWalks.{IsCoveredApart, Spot, StandsForApart}
+use Rattle.list_suffixes.specs.ApartRuns.{StandsForAlways}
 use Rattle.list_suffixes.specs.SettledWalks.{AreAhead}
 use Rattle.run_places.specs.declared.place.Place.{Place as KeptPlace}
 use Rattle.run_places.specs.Spots.{Grows, spot_of, spots_of}
@@ -120,6 +121,9 @@ covered_stays m ps qs p g c = (c.0, stays ps qs c.0 g c.1, c.2)
 
 pub ahead_stays : (ps qs : List KeptPlace) (p : Spot) → Grows ps qs → AreAhead (spots_of ps) p → AreAhead (spots_of qs) p
 ahead_stays ps qs p g c = (c.0, stays ps qs c.0 g c.1, c.2)
+
+pub ahead_by : (ps : List Spot) (q r : Spot) → AreAhead ps q → StandsForAlways q r → AreAhead ps r
+ahead_by ps q r a s = (a.0, a.1, λ m. stands_on m a.0 q r (a.2 m) (s m))
 
 -- a place that came is there
 pub came : (ps qs : List KeptPlace) (p : KeptPlace) → qs ≡ ps ++ p ∷ [] → Contains (spots_of qs) (spot_of p)

@@ -21,5 +21,5 @@ pub use hart_ends::HartEnd;
 pub use hart_states::{ListedStore, OpeningMemory};
 pub use owing::is_lost;
 pub use own_moves::OwnDoubleword;
-pub use place::{Place, first_place, place_behind};
-pub use walking::{HartWalk, Walk, begun, walk_from};
+pub use place::{Place, first_place, is_paid, place_behind};
+pub use walking::{HartWalk, Walk, add_all, begun, walk_from};

@@ -34,13 +34,14 @@ fn with_registers(state: &RunState, before: u64) -> u64 {
     mark
 }
 
-/// A mark, and what the hart's own last stores left, and where they stand.
+/// A mark, and what the hart's own last stores left, and where they stand, in whatever order they are kept.
 fn with_bytes(state: &RunState, before: u64) -> u64 {
     let mut mark = before;
     for byte in &state.bytes {
         if let Some(own) = byte.own {
-            mark = with(mark, own.place as u64);
-            mark = with(mark, u64::from(own.byte.unwrap_or(0)));
+            let place = with(byte.address, own.place as u64);
+            let left = with(place, u64::from(own.byte.unwrap_or(0)));
+            mark = mark.wrapping_add(left.wrapping_mul(MULTIPLIER));
         }
     }
     mark

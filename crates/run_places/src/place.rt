@@ -66,7 +66,7 @@ pub fn first_place(alloc: Global, hart: &Hart) -> Place
 }
 
 /// Whether a store of the list is among those that were done.
-pub(crate) fn is_paid(paid: &[usize], store: usize) -> bool
+pub fn is_paid(paid: &[usize], store: usize) -> bool
     ensures { result ≡ is_among paid.now store }
 {
     paid.contains(&store)

@@ -175,8 +175,14 @@ fn keep_end(ends: &mut Vec<HartEnd>, found: Option<HartEnd>) -> Result<(), OutOf
 }
 
 /// Adds places, but for those for which some stand.
-fn add_all(places: &mut Places, reached: Vec<Place>) -> Result<(), OutOfMemory>
+///
+/// # Errors
+///
+/// `OutOfMemory` alone.
+pub fn add_all(places: &mut Places, reached: Vec<Place>) -> Result<(), OutOfMemory>
     ensures grows { OnOk result (Grows places.old.all.items places.new.all.items) }
+    ensures ahead { OnOk result ((p : Spot) → AreAhead (spots_of reached.items) p →
+        AreAhead (spots_of places.new.all.items) p) }
     ensures covered { OnOk result ((m : List Stored) (p : Spot) →
         IsCoveredApart m (spots_of reached.items) p →
         IsCoveredApart m (spots_of places.new.all.items) p) }
