@@ -36,7 +36,7 @@ pub record IsLeft (a : RunState) (v : Move) (t : ℕ) (d : RunState) : Type 0 wh
   pub kinds : d.kinds ≡ kinds_after a.kinds v.access (operates v) t
   pub seen : (x : ℕ) → a.seen x ≤ d.seen x
 
-abbrev time_behind : List Stored → Move → Bool → ℕ
+abbrev pub time_behind : List Stored → Move → Bool → ℕ
 time_behind m v private = if private then min v.time (later m) else behind m v
 
 pub left_so : (owns : ℕ → ℕ → Bool) (h : ℕ) (m : List Stored) (a : RunState) (v : Move) → IsLeft a v (time_behind m v (is_private owns h v.access)) (left_by_move owns h m a v)
@@ -90,6 +90,10 @@ operating y e = by_kind (loads y)
     by_kind true = refl
     by_kind false = e
 
+not_false : (c : Bool) → not c ≡ true → c ≡ false
+not_false true e = absurd (cc)
+not_false false e = refl
+
 acquired : (k : KindBounds) (y : Access) (t b : ℕ) → writing y ≡ true → is_acquire y ≡ true → b ≤ t → b ≤ from (kinds_after k y (loads y || writing y) t)
 acquired k y t b wet acquire l =
     let o = operating y wet in
@@ -98,36 +102,40 @@ acquired k y t b wet acquire l =
     omega (arith, p)
 
 shut_so : (b : ℕ) (l : LateKinds) (k : KindBounds) (y : Access) (t : ℕ) → (l.loads ≡ true → b ≤ k.loads) → (l.stores ≡ true → b ≤ k.stores) →
-    (writing y ≡ true → is_acquire y ≡ true → b ≤ t) → shuts l y ≡ true → b ≤ from (kinds_after k y (loads y || writing y) t)
-shut_so b l k y t did_load did_store late e = elim (or_cases (l.loads && loads_loads y) ((l.stores && orders_loads y) || (writing y && is_acquire y)) e) [
+    (l.owes ≡ false → writing y ≡ true → is_acquire y ≡ true → b ≤ t) → shuts l y ≡ true → b ≤ from (kinds_after k y (loads y || writing y) t)
+shut_so b l k y t did_load did_store late e = elim (or_cases (l.loads && loads_loads y) ((l.stores && orders_loads y) || (not l.owes && (writing y && is_acquire y))) e) [
   | inl first ↦
       let both = and_parts l.loads (loads_loads y) first in
       let p = at_least (loads_loads y) k.load_load k.loads b both.1 (did_load both.0) in
       omega (arith, p)
-  | inr rest ↦ elim (or_cases (l.stores && orders_loads y) (writing y && is_acquire y) rest) [
+  | inr rest ↦ elim (or_cases (l.stores && orders_loads y) (not l.owes && (writing y && is_acquire y)) rest) [
     | inl second ↦
         let both = and_parts l.stores (orders_loads y) second in
         let p = at_least (orders_loads y) k.store_load k.stores b both.1 (did_store both.0) in
         omega (arith, p)
     | inr third ↦
-        let both = and_parts (writing y) (is_acquire y) third in
-        acquired k y t b both.0 both.1 (late both.0 both.1)
+        let paid = and_parts (not l.owes) (writing y && is_acquire y) third in
+        let both = and_parts (writing y) (is_acquire y) paid.1 in
+        acquired k y t b both.0 both.1 (late (not_false l.owes paid.0) both.0 both.1)
   ]
 ]
 
-pub shut : (b : ℕ) (l : LateKinds) {a d : RunState} {v : Move} {t : ℕ} → DidLate b l a → IsLeft a v t d → (writing v.access ≡ true → is_acquire v.access ≡ true → b ≤ t) →
+pub shut : (b : ℕ) (l : LateKinds) {a d : RunState} {v : Move} {t : ℕ} → DidLate b l a → IsLeft a v t d → (l.owes ≡ false → writing v.access ≡ true → is_acquire v.access ≡ true → b ≤ t) →
     shuts l v.access ≡ true → b ≤ loads_from d
 shut b l {a} {d} {v} {t} did i late e = subst (λ (k : KindBounds). b ≤ from k) (sym i.kinds) (shut_so b l a.kinds v.access t did.loads did.stores late e)
 
 -- a late operation shuts as an acquire alone
-pub shut_first : (b : ℕ) {a d : RunState} {v : Move} {t : ℕ} → IsLeft a v t d → b ≤ t → shuts (late_of v.access) v.access ≡ true → b ≤ loads_from d
-shut_first b {a} {d} {v} {t} i l e =
+pub shut_first : (b : ℕ) (owes : Bool) {a d : RunState} {v : Move} {t : ℕ} → IsLeft a v t d → b ≤ t → shuts (late_of owes v.access) v.access ≡ true → b ≤ loads_from d
+shut_first b owes {a} {d} {v} {t} i l e =
     subst (λ (k : KindBounds). b ≤ from k) (sym i.kinds) (
-    elim (or_cases (loads v.access && loads_loads v.access) ((writing v.access && orders_loads v.access) || (writing v.access && is_acquire v.access)) e) [
+    elim (or_cases (loads v.access && loads_loads v.access) ((writing v.access && orders_loads v.access) || (not owes && (writing v.access && is_acquire v.access))) e) [
       | inl first ↦ let both = and_parts (loads v.access) (loads_loads v.access) first in let none = no_fence_loads v.access both.1 in absurd (cc)
-      | inr rest ↦ elim (or_cases (writing v.access && orders_loads v.access) (writing v.access && is_acquire v.access) rest) [
+      | inr rest ↦ elim (or_cases (writing v.access && orders_loads v.access) (not owes && (writing v.access && is_acquire v.access)) rest) [
         | inl second ↦ let both = and_parts (writing v.access) (orders_loads v.access) second in let none = no_fence_stores v.access both.1 in absurd (cc)
-        | inr third ↦ let both = and_parts (writing v.access) (is_acquire v.access) third in acquired a.kinds v.access t b both.0 both.1 l
+        | inr third ↦
+            let paid = and_parts (not owes) (writing v.access && is_acquire v.access) third in
+            let both = and_parts (writing v.access) (is_acquire v.access) paid.1 in
+            acquired a.kinds v.access t b both.0 both.1 l
       ]
     ]
     )
@@ -141,14 +149,14 @@ did_by b l k j a d e loads_late stores_late = record {
 }
 
 -- behind a late operation
-pub did_first : (b : ℕ) {a d : RunState} {v : Move} {t : ℕ} → IsLeft a v t d → b ≤ t → DidLate b (late_of v.access) d
-did_first b {a} {d} {v} {t} i l =
-    did_by b (late_of v.access) a.kinds (kinds_after a.kinds v.access (operates v) t) a d i.kinds
+pub did_first : (b : ℕ) (owes : Bool) {a d : RunState} {v : Move} {t : ℕ} → IsLeft a v t d → b ≤ t → DidLate b (late_of owes v.access) d
+did_first b owes {a} {d} {v} {t} i l =
+    did_by b (late_of owes v.access) a.kinds (kinds_after a.kinds v.access (operates v) t) a d i.kinds
     (λ on. at_least (loads v.access) a.kinds.loads t b on l) (λ on. at_least (writing v.access) a.kinds.stores t b on l)
 
 did_more : (b : ℕ) (owns : ℕ → ℕ → Bool) (h : ℕ) (l : LateKinds) (k : KindBounds) (y : Access) (t : ℕ) (c : Bool) → (c ≡ true → (writing y ≡ true) × (b ≤ t)) →
     (l.loads ≡ true → b ≤ k.loads) → (l.stores ≡ true → b ≤ k.stores) →
-    let more : LateKinds = (if c then record { loads = l.loads || loads y; stores = true } else l) in
+    let more : LateKinds = (if c then record { loads = l.loads || loads y; stores = true; owes = l.owes } else l) in
     let j = kinds_after k y (loads y || writing y) t in
     (more.loads ≡ true → b ≤ j.loads) × (more.stores ≡ true → b ≤ j.stores)
 did_more b owns h l k y t true late did_load did_store = (
@@ -163,15 +171,14 @@ did_more b owns h l k y t false late did_load did_store = (
   λ on. (let p = did_store on in let q = no_less (writing y) k.stores t in omega (arith, p, q)),
 )
 
-not_false : (c : Bool) → not c ≡ true → c ≡ false
-not_false true e = absurd (cc)
-not_false false e = refl
-
 -- and behind one more move
 pub did_on : (b : ℕ) (owns : ℕ → ℕ → Bool) (h : ℕ) (l : LateKinds) {a d : RunState} {v : Move} {t : ℕ} → DidLate b l a → IsLeft a v t d →
-    (writing v.access ≡ true → is_private owns h v.access ≡ false → b ≤ t) → DidLate b (late_with owns h l v.access) d
+    (l.owes ≡ false → writing v.access ≡ true → is_private owns h v.access ≡ false → b ≤ t) → DidLate b (late_with owns h l v.access) d
 did_on b owns h l {a} {d} {v} {t} did i late =
-    let both = did_more b owns h l a.kinds v.access t (writing v.access && not (is_private owns h v.access))
-    (λ e. let parts = and_parts (writing v.access) (not (is_private owns h v.access)) e in (parts.0, late parts.0 (not_false (is_private owns h v.access) parts.1)))
+    let both = did_more b owns h l a.kinds v.access t (not l.owes && (writing v.access && not (is_private owns h v.access)))
+    (λ e.
+    let paid = and_parts (not l.owes) (writing v.access && not (is_private owns h v.access)) e in
+    let parts = and_parts (writing v.access) (not (is_private owns h v.access)) paid.1 in
+    (parts.0, late (not_false l.owes paid.0) parts.0 (not_false (is_private owns h v.access) parts.1)))
     did.loads did.stores in
     did_by b (late_with owns h l v.access) a.kinds (kinds_after a.kinds v.access (operates v) t) a d i.kinds both.0 both.1

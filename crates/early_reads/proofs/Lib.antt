@@ -1,18 +1,11 @@
-mod Accesses
-mod Behind
-mod Bounds
-mod Branches
+pub mod Accesses
+pub mod Behind
+pub mod Bounds
 mod Exits
 mod LateBehind
-mod LateRuns
-mod LateSpots
 mod LeftOut
-mod Loads
-mod Moves
+pub mod Loads
+pub mod Moves
 mod Numbers
-mod Operations
-mod OwnStores
-mod Points
-mod Raising
-mod Settling
-mod StoresListed
+pub mod Points
+pub mod StoresListed

@@ -6,19 +6,31 @@ use Rattle.rv64_decode.specs.declared.instruction.Instr.{Instr}
 use Rattle.all_endings.specs.RunStates.{Move, RunState}
 use Rattle.early_reads.specs.declared.early_point.EarlyPoint.{EarlyPoint}
 use Rattle.early_reads.specs.declared.early_point.LateKinds.{LateKinds}
-use Rattle.early_reads.specs.Checking.{HoldsOrAll, IsRightAt, bytes_in, constants_in, map_of, point_at}
+use Rattle.early_reads.specs.Checking.{HoldsOrAll, IsRightAt, bytes_by, bytes_in, constants_in, has_early, map_of, point_at}
 use Rattle.early_reads.specs.EarlyMaps.{Agrees, HoldsAlong, IsRight}
 
--- what is said of each kind of late operations
-pub by_kinds : (P : LateKinds → Type 0) → P (record { loads = true; stores = true }) → P (record { loads = true; stores = false }) → P (record { loads = false; stores = true }) →
-    P (record { loads = false; stores = false }) → (l : LateKinds) → P l
-by_kinds P both load store none l = by_bools l.loads l.stores
+-- what is said of each kind of late operations, of a hart that owes stores, or of one that owes none
+pub by_kinds : (P : LateKinds → Type 0) (owes : Bool) → P (record { loads = true; stores = true; owes = owes }) → P (record { loads = true; stores = false; owes = owes }) →
+    P (record { loads = false; stores = true; owes = owes }) → P (record { loads = false; stores = false; owes = owes }) → (l : LateKinds) → l.owes ≡ owes → P l
+by_kinds P owes both load store none l e = subst (λ (c : Bool). P (record { loads = l.loads; stores = l.stores; owes = c })) (sym e) (by_bools l.loads l.stores)
   where
-    by_bools : (a b : Bool) → P (record { loads = a; stores = b })
+    by_bools : (a b : Bool) → P (record { loads = a; stores = b; owes = owes })
     by_bools true true = both
     by_bools true false = load
     by_bools false true = store
     by_bools false false = none
+
+pub by_owing : (P : LateKinds → Type 0) → ((l : LateKinds) → l.owes ≡ false → P l) → ((l : LateKinds) → l.owes ≡ true → P l) → (l : LateKinds) → P l
+by_owing P pays owing l = by_test l.owes refl
+  where
+    by_test : (c : Bool) → l.owes ≡ c → P l
+    by_test true e = owing l e
+    by_test false e = pays l e
+
+-- where nothing is late, all bytes may be loaded
+pub none_late : (owes : Bool) (p : EarlyPoint) (x : ℕ) → has_early (bytes_by (record { loads = false; stores = false; owes = owes }) p) x ≡ true
+none_late true p x = refl
+none_late false p x = refl
 
 pub same_instruction : (i j : Instr) (o : Option Instr) → o ≡ Some i → o ≡ Some j → i ≡ j
 same_instruction i j o e f = cc

@@ -15,6 +15,7 @@ use Rattle.private_bytes.specs.PrivateMoves.{ActsApart}
 use Rattle.early_reads.specs.declared.early_point.EarlyBytes.{EarlyBytes}
 use Rattle.early_reads.specs.declared.early_point.EarlyBytes.TheVariants.{All, Among}
 use Rattle.early_reads.specs.declared.early_point.EarlyPoint.{EarlyPoint}
+use Rattle.early_reads.specs.declared.early_point.EarlySets.{EarlySets}
 use Rattle.early_reads.specs.declared.early_point.LateKinds.{LateKinds}
 use Rattle.early_reads.specs.declared.early_point.LoadedBytes.{LoadedBytes}
 use Rattle.early_reads.specs.EarlyMaps.{Agrees, EarlyMap}
@@ -32,9 +33,16 @@ abbrev pub has_all : EarlyBytes → Bool
 has_all All = true
 has_all (Among rs) = false
 
+abbrev pub bytes_among : LateKinds → EarlySets → EarlyBytes
+bytes_among l s = if l.loads then (if l.stores then s.after_both else s.after_load) else (if l.stores then s.after_store else All)
+
 -- by what is late: where nothing is, all bytes
 abbrev pub bytes_by : LateKinds → EarlyPoint → EarlyBytes
-bytes_by l p = if l.loads then (if l.stores then p.after_both else p.after_load) else (if l.stores then p.after_store else All)
+bytes_by l p = if l.owes then bytes_among l p.owing else bytes_among l p.paid
+
+-- for some kind of what is late bytes are left out, whether the hart owes stores or not
+abbrev pub LeavesSome : EarlySets → Type 0
+LeavesSome s = (owes : Bool) → (l : LateKinds) × (l.owes ≡ owes) × (x : ℕ) × (has_early (bytes_among l s) x ≡ false)
 
 abbrev pub point_at : List EarlyPoint → ℕ → Option EarlyPoint
 point_at [] pc = None

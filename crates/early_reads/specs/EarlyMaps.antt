@@ -39,3 +39,7 @@ IsRight f owns image h =
     (l : LateKinds) (m : List Stored) (opening : ℕ → ℕ) (a : RunState) (v : Move) → decoded image a.pc ≡ Some v.instruction →
     ActsApart owns image h m opening (IsPlaced h m) a v → Agrees (f.constants a.pc) a.registers →
     ((x : ℕ) → f.bytes l a.pc x ≡ true) ⊎ HoldsAlong f owns h l a v
+
+-- for what is late, a map leaves out some byte from an address on
+abbrev pub LeavesOut : EarlyMap → ℕ → Type 0
+LeavesOut f pc = (l : LateKinds) × (x : ℕ) × (f.bytes l pc x ≡ false)

@@ -1,6 +1,5 @@
 -- Where an instruction leads, what it puts into a register, and which access it makes, as far as the code tells.
-use Rattle.std.specs.Prelude.{◌≡◌, ℕ, ◌%◌, ◌⊎◌, Bool, true, false, List, Option, Some, None}
-use Rattle.pages.specs.declared.access.Width.{Width}
+use Rattle.std.specs.Prelude.{◌≡◌, ℕ, ◌⊎◌, Bool, true, false, List, Option, Some, None}
 use Rattle.pages.specs.Memory.{Memory}
 use Rattle.round_schedule.specs.declared.access.Access.{Access}
 use Rattle.round_schedule.specs.declared.access.Access.TheVariants.{Load, Store, LoadReserved, StoreConditional, Atomic, Fence}
@@ -8,7 +7,7 @@ use Rattle.round_schedule.specs.Accesses.{is_sc, loads}
 use Rattle.round_schedule.specs.Accesses.{stores as writing}
 use Rattle.rv64_decode.specs.declared.instruction.Instr.{Instr}
 use Rattle.rv64_decode.specs.declared.instruction.Instr.TheVariants.{Jal, Jalr, Beq, Bne, Blt, Bge, Bltu, Bgeu}
-use Rattle.hart_step.specs.Effect.{Action, Put, Jump, Branch, Read, Write, Order, Reserve, Conditional, Exchange, action}
+use Rattle.hart_step.specs.Effect.{Action, Put, Jump, Read, Write, Order, Reserve, Conditional, Exchange, action}
 use Rattle.hart_step.specs.Numbers.{plus}
 use Rattle.hart_step.specs.Registers.{reg}
 use Rattle.execution.specs.Executions.{no_access}
@@ -54,14 +53,6 @@ abbrev pub number_in : ℕ → Action → Option ℕ
 number_in pc (Put rd n) = Some n
 number_in pc (Jump rd target) = Some (plus pc 4)
 number_in pc _ = None
-
--- an instruction is a plain load
-abbrev pub LoadsPlainly : Instr → Type 0
-LoadsPlainly i = (x : List ℕ) (pc : ℕ) → (rd address : ℕ) × (w : Width) × (signed : Bool) × (action i x pc ≡ Read rd address w signed)
-
--- at this address it is a branch to where an instruction can stand
-abbrev pub BranchesAt : Instr → ℕ → Type 0
-BranchesAt i pc = (x : List ℕ) → (taken : Bool) × (target : ℕ) × (action i x pc ≡ Branch taken target) × (target % 4 ≡ 0)
 
 -- ---- moves
 

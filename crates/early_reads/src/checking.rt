@@ -69,28 +69,32 @@ fn holds_from(
     }
 }
 
-/// Whether it holds from a point, whatever is late.
-fn holds_at(
+/// The same whatever is late, of a hart that owes stores of the list, or of one that owes none.
+fn holds_owing(
     points: &[EarlyPoint],
     pages: &Pages,
     owned: &[OwnDoubleword],
     hart: u8,
     point: &EarlyPoint,
+    owes: bool,
 ) -> bool
-    ensures { IsTrue result → (l : Late) → IsRightAt points.now (owns_of owned.now)
-        pages.now.memory hart point.now l }
+    ensures { IsTrue result → (l : Late) → l.owes ≡ owes →
+        IsRightAt points.now (owns_of owned.now) pages.now.memory hart point.now l }
 {
     let load = LateKinds {
         loads: true,
         stores: false,
+        owes,
     };
     let store = LateKinds {
         loads: false,
         stores: true,
+        owes,
     };
     let both = LateKinds {
         loads: true,
         stores: true,
+        owes,
     };
     if !holds_from(points, pages, owned, hart, point, load) {
         return false;
@@ -101,9 +105,27 @@ fn holds_at(
     holds_from(points, pages, owned, hart, point, both)
 }
 
+/// The same of each hart.
+fn holds_at(
+    points: &[EarlyPoint],
+    pages: &Pages,
+    owned: &[OwnDoubleword],
+    hart: u8,
+    point: &EarlyPoint,
+) -> bool
+    ensures { IsTrue result → (l : Late) → IsRightAt points.now (owns_of owned.now)
+        pages.now.memory hart point.now l }
+{
+    if !holds_owing(points, pages, owned, hart, point, false) {
+        return false;
+    }
+    holds_owing(points, pages, owned, hart, point, true)
+}
+
 /// Whether a map of a hart's code is right: it holds along each move from each of its points.
 pub fn is_right(points: &[EarlyPoint], pages: &Pages, owned: &[OwnDoubleword], hart: u8) -> bool
-    ensures { IsTrue result → IsRight (map_of points.now) (owns_of owned.now) pages.now.memory hart }
+    ensures { IsTrue result → IsRight (map_of points.now) (owns_of owned.now) pages.now.memory
+        hart }
 {
     for index in 0..points.len() {
         if !holds_at(points, pages, owned, hart, &points[index]) {

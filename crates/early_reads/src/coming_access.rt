@@ -43,7 +43,7 @@ fn fence_of(i: &Instr) -> Access
 }
 
 /// The access of an instruction over constants, with 0 for each register that is none.
-pub(crate) fn access_over(constants: &[Option<u64>; 32], pc: u64, i: &Instr) -> Access
+pub fn access_over(constants: &[Option<u64>; 32], pc: u64, i: &Instr) -> Access
     ensures { result ≡ access_in (action i.now (filled constants.now) pc) }
 {
     let hart = Hart {
@@ -59,7 +59,7 @@ pub(crate) fn access_over(constants: &[Option<u64>; 32], pc: u64, i: &Instr) -> 
 }
 
 /// Whether the address of an instruction's access comes from constants.
-pub(crate) fn knows_address(constants: &[Option<u64>; 32], i: &Instr) -> bool
+pub fn knows_address(constants: &[Option<u64>; 32], i: &Instr) -> bool
     ensures knows { IsTrue result → KnowsButData (registers_of i.now) constants.now }
     ensures all { KnowsButData (registers_of i.now) constants.now → IsTrue result }
 {

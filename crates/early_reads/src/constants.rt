@@ -47,7 +47,8 @@ fn are_there(
     value: Option<u64>,
 ) -> bool
     ensures { IsTrue result → (w : List (Option ℕ)) (o : Option ℕ) → Agrees before.now w →
-        ((n l : ℕ) → value ≡ Some n → o ≡ Some l → n ≡ l) → Agrees told.now (set_view w register o) }
+        ((n l : ℕ) → value ≡ Some n → o ≡ Some l → n ≡ l) →
+        Agrees told.now (set_view w register o) }
 {
     for k in 1..32 {
         if !is_there(told[k], held_behind(before, register, value, k)) {

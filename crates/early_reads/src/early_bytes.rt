@@ -1,11 +1,38 @@
 //! The points of a map, and the bytes that may be loaded early there.
-ghost use Rattle.std.specs.Prelude.{◌≡◌, ◌<◌, ℕ, length, slice_index_or, IsTrue, MatchOption, Some, None, true, false};
+ghost use Rattle.std.specs.Prelude.{◌≡◌, ◌<◌, ℕ, length, slice_index_or, IfNone, IfSome, IsTrue, MatchOption, Some, None, true, false};
 ghost use Rattle.pages.specs.Memory.{in_range, width_bytes};
 ghost use Rattle.early_reads.specs.declared.early_point.EarlyPoint.{EarlyPoint as Point};
 ghost use Rattle.early_reads.specs.declared.early_point.LateKinds.{LateKinds as Late};
-ghost use Rattle.early_reads.specs.Checking.{bytes_by, has_all, has_early, is_loaded, point_at};
+ghost use Rattle.early_reads.specs.declared.early_point.EarlyBytes.TheVariants.{All};
+ghost use Rattle.early_reads.specs.Checking.{LeavesSome, bytes_by, has_all, has_early, is_loaded, map_of, point_at};
+ghost use Rattle.early_reads.specs.EarlyMaps.{LeavesOut};
 
-use crate::early_point::{EarlyBytes, EarlyPoint, LateKinds, LoadedBytes};
+use crate::early_point::{EarlyBytes, EarlyPoint, EarlySets, LateKinds, LoadedBytes};
+
+/// The bytes that may be loaded early at a point, for what is late. None where nothing is: all.
+pub(crate) fn set_of(point: &EarlyPoint, late: LateKinds) -> Option<&EarlyBytes>
+    ensures none { IfNone result (bytes_by late point.now ≡ All) }
+    ensures some { IfSome result (λ s. s.now ≡ bytes_by late point.now) }
+{
+    let sets = if late.owes { &point.owing } else { &point.paid };
+    match (late.loads, late.stores) {
+        (true, true) => Some(&sets.after_both),
+        (true, false) => Some(&sets.after_load),
+        (false, true) => Some(&sets.after_store),
+        (false, false) => None,
+    }
+}
+
+/// The bytes that may be loaded early from an address on, for what is late. None where the map tells nothing: all.
+pub fn bytes_at<'a>(points: &'a [EarlyPoint], late: LateKinds, pc: u64) -> Option<&'a EarlyBytes>
+    ensures { IfSome result (λ s. (x : ℕ) →
+        (map_of points.now).bytes late pc x ≡ has_early s.now x) }
+{
+    match find(points, pc) {
+        Some(index) => set_of(&points[index], late),
+        None => None,
+    }
+}
 
 /// The index of the point of an address.
 pub(crate) fn find(points: &[EarlyPoint], pc: u64) -> Option<usize>
@@ -52,11 +79,9 @@ pub(crate) fn has_by(point: &EarlyPoint, late: LateKinds, bytes: LoadedBytes) ->
         in_range bytes.address (width_bytes bytes.width) x ≡ true →
         has_early (bytes_by late point.now) x ≡ true }
 {
-    match (late.loads, late.stores) {
-        (true, true) => has(&point.after_both, bytes),
-        (true, false) => has(&point.after_load, bytes),
-        (false, true) => has(&point.after_store, bytes),
-        (false, false) => true,
+    match set_of(point, late) {
+        Some(set) => has(set, bytes),
+        None => true,
     }
 }
 
@@ -68,29 +93,47 @@ fn is_all(set: &EarlyBytes) -> bool
     matches!(set, EarlyBytes::All)
 }
 
-/// Whether bytes are left out at a point, for what is late.
-pub(crate) fn is_open(point: &EarlyPoint) -> bool
+/// Whether bytes are left out, for some kind of what is late.
+fn leaves_some(sets: &EarlySets) -> bool
+    ensures { IsTrue result → LeavesSome sets.now }
+{
+    if !is_all(&sets.after_load) {
+        return true;
+    }
+    if !is_all(&sets.after_store) {
+        return true;
+    }
+    !is_all(&sets.after_both)
+}
+
+/// Whether bytes are left out at a point, for some kind of what is late.
+fn is_open(point: &EarlyPoint) -> bool
     ensures { IsTrue result → (l : Late) × (x : ℕ) ×
         (has_early (bytes_by l point.now) x ≡ false) }
 {
-    if !is_all(&point.after_load) {
+    if leaves_some(&point.paid) {
         return true;
     }
-    if !is_all(&point.after_store) {
-        return true;
+    leaves_some(&point.owing)
+}
+
+/// Whether a map leaves out bytes at an address, for some kind of what is late.
+pub fn leaves_out(points: &[EarlyPoint], pc: u64) -> bool
+    ensures { IsTrue result → LeavesOut (map_of points.now) pc }
+{
+    match find(points, pc) {
+        Some(index) => is_open(&points[index]),
+        None => false,
     }
-    !is_all(&point.after_both)
 }
 
 /// The same by what is late.
 pub(crate) fn is_all_by(point: &EarlyPoint, late: LateKinds) -> bool
     ensures { IsTrue result → (x : ℕ) → has_early (bytes_by late point.now) x ≡ true }
 {
-    match (late.loads, late.stores) {
-        (true, true) => is_all(&point.after_both),
-        (true, false) => is_all(&point.after_load),
-        (false, true) => is_all(&point.after_store),
-        (false, false) => true,
+    match set_of(point, late) {
+        Some(set) => is_all(set),
+        None => true,
     }
 }
 
@@ -128,10 +171,8 @@ pub(crate) fn is_within_by(
     ensures { IsTrue result → (x : ℕ) → has_early (bytes_by behind other.now) x ≡ true →
         has_early (bytes_by late point.now) x ≡ true }
 {
-    match (behind.loads, behind.stores) {
-        (true, true) => is_within(&other.after_both, point, late),
-        (true, false) => is_within(&other.after_load, point, late),
-        (false, true) => is_within(&other.after_store, point, late),
-        (false, false) => is_all_by(point, late),
+    match set_of(other, behind) {
+        Some(set) => is_within(set, point, late),
+        None => is_all_by(point, late),
     }
 }

@@ -1,13 +1,15 @@
 //! What is known of the code at an instruction.
 use pages::Width;
 
-/// Which kinds of operations of a hart are late.
+/// Which kinds of operations of a hart are late, and whether it may do others early.
 #[derive(Clone, Copy)]
 pub struct LateKinds {
     /// A load.
     pub loads: bool,
     /// A store.
     pub stores: bool,
+    /// Whether stores that come may be early: the hart owes some of the list.
+    pub owes: bool,
 }
 
 /// Bytes that an instruction loads.
@@ -28,6 +30,17 @@ pub enum EarlyBytes {
     Among(Vec<LoadedBytes>),
 }
 
+/// What may be loaded early from an instruction on, by what is late.
+#[derive(Drop)]
+pub struct EarlySets {
+    /// Where a load is late.
+    pub after_load: EarlyBytes,
+    /// Where a store is.
+    pub after_store: EarlyBytes,
+    /// Where both are.
+    pub after_both: EarlyBytes,
+}
+
 /// What is known at an instruction.
 #[derive(Drop)]
 pub struct EarlyPoint {
@@ -35,10 +48,8 @@ pub struct EarlyPoint {
     pub pc: u64,
     /// The registers, as far as they are numbers of the code. What stands at the place of x0 is not looked at.
     pub constants: [Option<u64>; 32],
-    /// What may be loaded early from there on, where a load is late.
-    pub after_load: EarlyBytes,
-    /// The same where a store is.
-    pub after_store: EarlyBytes,
-    /// The same where both are.
-    pub after_both: EarlyBytes,
+    /// What may be loaded early from there on, where each store that comes is late.
+    pub paid: EarlySets,
+    /// The same where the hart owes stores of the list.
+    pub owing: EarlySets,
 }

@@ -9,7 +9,7 @@ use rv64_decode::{Instr, Reg};
 
 /// How an instruction goes on.
 #[derive(Clone, Copy)]
-pub(crate) enum Flow {
+pub enum Flow {
     /// At the next word.
     On,
     /// So far on.
@@ -32,7 +32,7 @@ pub(crate) enum Targets {
 }
 
 /// How an instruction goes on.
-pub(crate) fn flow_of(i: &Instr) -> Flow
+pub fn flow_of(i: &Instr) -> Flow
     ensures { result ≡ flow_of i.now }
 {
     match *i {

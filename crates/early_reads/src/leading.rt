@@ -87,6 +87,9 @@ pub(crate) fn leads_on(
     if !conditional && is_shut(late, access) {
         return true;
     }
+    if late.owes {
+        return allows_each(points, point, late, late, step.targets);
+    }
     if !access.stores() {
         return allows_each(points, point, late, late, step.targets);
     }

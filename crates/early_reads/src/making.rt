@@ -1,8 +1,8 @@
 //! A map of a hart's code.
 
 use crate::coming_access::{access_over, knows_address};
-use crate::early_bytes::{find, is_among};
-use crate::early_point::{EarlyBytes, EarlyPoint, LateKinds, LoadedBytes};
+use crate::early_bytes::{bytes_at, find, is_among};
+use crate::early_point::{EarlyBytes, EarlyPoint, EarlySets, LateKinds, LoadedBytes};
 use crate::flow::{Targets, is_exit, number_put, targets_of};
 use crate::leading::{CodeStep, loaded_by};
 use crate::shutting::{is_conditional, is_shut, with_store};
@@ -16,6 +16,40 @@ use std::alloc::Global;
 
 /// So many times at most is gone through the code. A map that isn't done by then isn't right.
 const TURNS: usize = 4096;
+
+/// All kinds of what is late, but for nothing.
+const LATE_KINDS: [LateKinds; 6] = [
+    LateKinds {
+        loads: true,
+        stores: false,
+        owes: false,
+    },
+    LateKinds {
+        loads: false,
+        stores: true,
+        owes: false,
+    },
+    LateKinds {
+        loads: true,
+        stores: true,
+        owes: false,
+    },
+    LateKinds {
+        loads: true,
+        stores: false,
+        owes: true,
+    },
+    LateKinds {
+        loads: false,
+        stores: true,
+        owes: true,
+    },
+    LateKinds {
+        loads: true,
+        stores: true,
+        owes: true,
+    },
+];
 
 /// A map of the code that a hart comes to from where it begins. Nothing is said of it: `is_right` judges it.
 ///
@@ -53,6 +87,13 @@ fn new_point(alloc: Global, pc: u64, constants: [Option<u64>; 32]) -> EarlyPoint
     EarlyPoint {
         pc,
         constants,
+        paid: no_sets(alloc),
+        owing: no_sets(alloc),
+    }
+}
+
+fn no_sets(alloc: Global) -> EarlySets {
+    EarlySets {
         after_load: EarlyBytes::Among(Vec::new(alloc)),
         after_store: EarlyBytes::Among(Vec::new(alloc)),
         after_both: EarlyBytes::Among(Vec::new(alloc)),
@@ -152,8 +193,7 @@ fn gather(
 ) -> Result<bool, OutOfMemory> {
     let mut changed = false;
     for index in 0..points.len() {
-        for (loads, stores) in [(true, false), (false, true), (true, true)] {
-            let late = LateKinds { loads, stores };
+        for late in LATE_KINDS {
             let bytes = match points.get(index) {
                 Some(point) => early_at(alloc, pages, owned, hart, points, point, late)?,
                 None => return Ok(false),
@@ -168,10 +208,15 @@ fn gather(
 
 /// Keeps what may be loaded early at a point, if that is more than before.
 fn keep(point: &mut EarlyPoint, late: LateKinds, bytes: EarlyBytes) -> bool {
+    let sets = if late.owes {
+        &mut point.owing
+    } else {
+        &mut point.paid
+    };
     let place = match (late.loads, late.stores) {
-        (true, true) => &mut point.after_both,
-        (true, false) => &mut point.after_load,
-        _ => &mut point.after_store,
+        (true, true) => &mut sets.after_both,
+        (true, false) => &mut sets.after_load,
+        _ => &mut sets.after_store,
     };
     let grows = size_of_set(place) < size_of_set(&bytes);
     *place = bytes;
@@ -217,7 +262,7 @@ fn early_at(
         return Ok(read);
     }
     let on = with_targets(read, points, late, step.targets)?;
-    if !step.access.stores() {
+    if late.owes || !step.access.stores() {
         return Ok(on);
     }
     with_targets(on, points, with_store(late, &step.access), step.targets)
@@ -247,18 +292,9 @@ fn with_point(
     late: LateKinds,
     pc: u64,
 ) -> Result<EarlyBytes, OutOfMemory> {
-    let point = match find(points, pc) {
-        Some(index) => &points[index],
-        None => return Ok(EarlyBytes::All),
-    };
-    let more = match (late.loads, late.stores) {
-        (true, true) => &point.after_both,
-        (true, false) => &point.after_load,
-        _ => &point.after_store,
-    };
-    match more {
-        EarlyBytes::All => Ok(EarlyBytes::All),
-        EarlyBytes::Among(loads) => with_loads(set, loads),
+    match bytes_at(points, late, pc) {
+        Some(EarlyBytes::Among(loads)) => with_loads(set, loads),
+        _ => Ok(EarlyBytes::All),
     }
 }
 

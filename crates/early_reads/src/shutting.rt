@@ -39,19 +39,25 @@ fn orders_loads_alone(access: &Access) -> bool
 }
 
 /// Whether no load behind an access is early.
-pub(crate) fn is_shut(late: LateKinds, access: &Access) -> bool
+pub fn is_shut(late: LateKinds, access: &Access) -> bool
     ensures { result ≡ shuts late access.now }
 {
     (late.loads && orders_loads_alone(access))
-        || ((late.stores && orders_loads(access)) || (access.stores() && acquires(access)))
+        || ((late.stores && orders_loads(access))
+            || (!late.owes && (access.stores() && acquires(access))))
 }
 
 /// What is late behind a store that is.
 pub(crate) fn with_store(late: LateKinds, access: &Access) -> LateKinds
-    ensures { result ≡ record { loads = late.loads || loads access.now; stores = true } }
+    ensures { result ≡ record {
+      loads = late.loads || loads access.now;
+      stores = true;
+      owes = late.owes;
+    } }
 {
     LateKinds {
         loads: late.loads || access.loads(),
         stores: true,
+        owes: late.owes,
     }
 }

@@ -1,13 +1,8 @@
-use Rattle.std.proofs.Common.{sym, ◌∙◌}
-use Rattle.std.proofs.lemmas.Bool.{not-true}
-use Rattle.early_reads.proofs.LeftOut.{opens_both, opens_load, opens_store}
+use Rattle.early_reads.proofs.LeftOut.{opens_owing, opens_paid}
 use Rattle.early_reads.proofs.early_bytes.is_open.Goals as goal
 
-pub returns-then-not-is_all : goal.returns-then-not-is_all
-returns-then-not-is_all c = λ held. opens_load c.args.point.now (sym c.is_all.ensures.is ∙ c.if-not-is_all.true)
-
-pub returns-then-not-is_all-2 : goal.returns-then-not-is_all-2
-returns-then-not-is_all-2 c = λ held. opens_store c.args.point.now (sym c.is_all-2.ensures.is ∙ c.if-not-is_all-2.true)
+pub returns-then-leaves_some : goal.returns-then-leaves_some
+returns-then-leaves_some c = λ held. opens_paid c.args.point.now (c.leaves_some.ensures c.if-leaves_some.true)
 
 pub returns : goal.returns
-returns c = λ held. opens_both c.args.point.now (sym c.is_all-3.ensures.is ∙ not-true c.is_all-3.result held)
+returns c = λ held. opens_owing c.args.point.now (c.leaves_some-2.ensures held)

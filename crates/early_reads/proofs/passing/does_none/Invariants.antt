@@ -1,8 +1,0 @@
-use Rattle.std.proofs.Common.{◌<◌, ℕ, slice_index_or}
-use Rattle.all_endings.specs.StoreLists.{no_store}
-use Rattle.hart_states.specs.States.{listed, state_of}
-use Rattle.early_reads.specs.LateRuns.{IsDoneAt}
-use Rattle.early_reads.proofs.passing.does_none.Given as goal
-
-abbrev pub invariant-loop-index : goal.invariant-loop-index
-invariant-loop-index l = (j : ℕ) → j < l.index → IsDoneAt l.hart (state_of l.state) j (slice_index_or (listed l.list) j no_store)

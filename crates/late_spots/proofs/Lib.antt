@@ -1,0 +1,6 @@
+mod Branches
+mod LateRuns
+mod LateSpots
+mod Operations
+mod OwnStores
+mod Settling

@@ -1,0 +1,4 @@
+pub mod Branching
+pub mod LateRuns
+pub mod LateSpots
+pub mod Onward
