@@ -9,16 +9,15 @@ use Rattle.hart_step.specs.declared.hart.Hart.{Hart}
 use Rattle.all_endings.specs.Endings.{opening_bytes}
 use Rattle.all_endings.specs.StoreLists.{Stored}
 use Rattle.all_endings.specs.Tables.{memory_of}
-use Rattle.hart_ends.proofs.Told.{pushed}
 use Rattle.hart_states.specs.declared.listed_store.ListedStore.{ListedStore}
-use Rattle.hart_states.specs.States.{listed, stored_of}
+use Rattle.hart_states.specs.States.{listed}
 use Rattle.private_bytes.specs.PrivateWalks.{Spot, first_spot}
-use Rattle.list_suffixes.specs.Serving.{Node, NodeStandsFor, first_node, node_with}
+use Rattle.list_suffixes.specs.Serving.{Node, NodeStandsFor, first_node}
 use Rattle.list_suffixes.specs.SettledWalks.{AreAhead}
 use Rattle.run_places.specs.declared.place.Place.{Place}
 use Rattle.run_places.specs.Spots.{spots_of}
 use Rattle.ending_nodes.specs.declared.node.Node.{Node as KeptNode}
-use Rattle.ending_nodes.specs.KeptNodes.{AreFirst, Grow, node_told, nodes_told, spots_at, spots_told}
+use Rattle.ending_nodes.specs.KeptNodes.{AreFirst, Grow, node_over, node_told, nodes_told, spots_at, spots_told}
 use Rattle.ending_nodes.proofs.Told.{none_in, single, told_before, told_here, told_last, told_past}
 
 abbrev pub one_told : Vec Place → List Spot
@@ -65,11 +64,10 @@ told_as : (image : Memory) (b c : List ListedStore) (m l : List Stored) (ss qs :
 told_as image b c m l ss qs behind list places =
     ap (λ (u : List ListedStore). node_as image u m ss) behind ∙ (ap (λ (u : List Stored). node_as image c u ss) list ∙ ap (λ (u : List (List Spot)). node_as image c l u) places)
 
-pub told_with : (image : Memory) (n t : KeptNode) (s : ListedStore) → t.behind.items ≡ n.behind.items → t.list.items ≡ n.list.items ++ s ∷ [] → spots_told t.places.items ≡ spots_told n.places.items →
-    node_told image t ≡ node_with (node_told image n) (stored_of s)
-told_with image n t s behind list places =
-    told_as image t.behind.items n.behind.items (listed t.list.items) (listed n.list.items ++ stored_of s ∷ []) (spots_told t.places.items) (spots_told n.places.items) behind
-    (pushed stored_of n.list.items t.list.items s list) places
+pub told_over : (image : Memory) (n t : KeptNode) (m : List ListedStore) → t.behind.items ≡ n.behind.items → t.list.items ≡ m → spots_told t.places.items ≡ spots_told n.places.items →
+    node_told image t ≡ node_over image n (listed m)
+told_over image n t m behind list places =
+    told_as image t.behind.items n.behind.items (listed t.list.items) (listed m) (spots_told t.places.items) (spots_told n.places.items) behind (ap listed list) places
 
 pub told_same : (image : Memory) (n t : KeptNode) → t.behind.items ≡ n.behind.items → t.list.items ≡ n.list.items → spots_told t.places.items ≡ spots_told n.places.items → node_told image t ≡ node_told image n
 told_same image n t behind list places =

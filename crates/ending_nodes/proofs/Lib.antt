@@ -1,4 +1,5 @@
 pub mod KeptNodes
+pub mod Laid
 pub mod Memories
 pub mod Raised
 pub mod Same

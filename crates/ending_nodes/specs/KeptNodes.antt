@@ -25,6 +25,10 @@ spots_at ps h = slice_index_or (spots_told ps) h []
 abbrev pub node_told : Memory → KeptNode → Node
 node_told image n = record { memory = λ x. memory_of (listed n.behind.items) (opening_bytes image) x; stores = listed n.list.items; spots = λ h. spots_at n.places.items h }
 
+-- the same with other stores in place of its list
+abbrev pub node_over : Memory → KeptNode → List Stored → Node
+node_over image n m = record (node_told image n) { stores = m }
+
 abbrev pub nodes_told : Memory → List KeptNode → List Node
 nodes_told image ns = map (node_told image) ns
 

@@ -15,7 +15,7 @@ use std::alloc::Global;
 /// # Errors
 ///
 /// `OutOfMemory` alone.
-pub(crate) fn laid(
+pub(crate) fn laid_together(
     alloc: Global,
     behind: &[ListedStore],
     list: &[ListedStore],
@@ -123,7 +123,7 @@ fn is_within(store: &ListedStore, other: &ListedStore) -> bool
 }
 
 /// Whether two stores share a byte.
-fn meets(store: &ListedStore, other: &ListedStore) -> bool
+pub(crate) fn meets(store: &ListedStore, other: &ListedStore) -> bool
     ensures { result ≡ false → (x : ℕ) → has_byte (stored_of other.now) x ≡ true →
         has_byte (stored_of store.now) x ≡ false }
 {

@@ -1,13 +1,13 @@
 //! What a node is.
-ghost use Rattle.std.specs.Prelude.{◌≡◌, ℕ, Bool, [], IfOk};
+ghost use Rattle.std.specs.Prelude.{◌≡◌, ℕ, Bool, [], ◌∷◌, ◌++◌, IfOk};
 ghost use Rattle.pages.specs.Memory.{Memory};
 ghost use Rattle.all_endings.specs.Offering.{AreFresh};
-ghost use Rattle.hart_states.specs.States.{stored_of};
-ghost use Rattle.list_suffixes.specs.Serving.{IsServed, node_with};
+ghost use Rattle.hart_states.specs.States.{listed, stored_of};
+ghost use Rattle.list_suffixes.specs.Serving.{IsServed};
 ghost use Rattle.list_suffixes.specs.SettledWalks.{AreAhead};
 ghost use Rattle.private_bytes.specs.PrivateWalks.{first_spot};
 ghost use Rattle.run_places.specs.Spots.{spots_of};
-ghost use Rattle.ending_nodes.specs.KeptNodes.{AreFirst, node_told, spots_told};
+ghost use Rattle.ending_nodes.specs.KeptNodes.{AreFirst, node_over, node_told, spots_told};
 
 use hart_states::ListedStore;
 use hart_step::Hart;
@@ -66,8 +66,8 @@ impl Node {
 ///
 /// `OutOfMemory` alone.
 pub fn first_node(alloc: Global, harts: &[Hart]) -> Result<Node, OutOfMemory>
-    ensures { IfOk result (λ n. (owns : ℕ → ℕ → Bool) (k : ℕ) (image : Memory) → AreFresh harts.now →
-        IsServed owns k image harts.now (node_told image n) []) }
+    ensures { IfOk result (λ n. (owns : ℕ → ℕ → Bool) (k : ℕ) (image : Memory) →
+        AreFresh harts.now → IsServed owns k image harts.now (node_told image n) []) }
 {
     first_node_serves();
     standing_nodes_serve();
@@ -100,21 +100,29 @@ fn one_place(alloc: Global, hart: &Hart) -> Result<Vec<Place>, OutOfMemory>
     Ok(places)
 }
 
-/// A node, and one store more.
-///
-/// # Errors
-///
-/// `OutOfMemory` alone.
-pub(crate) fn with_store(
+/// The list of a node, and one store more.
+pub(crate) fn longer_list(
     alloc: Global,
     node: &Node,
     store: ListedStore,
-) -> Result<Node, OutOfMemory>
-    ensures { IfOk result (λ n. (image : Memory) →
-        node_told image n ≡ node_with (node_told image node.now) (stored_of store)) }
+) -> Result<Vec<ListedStore>, OutOfMemory>
+    ensures { IfOk result (λ v. listed v.items ≡
+        listed node.now.list.items ++ stored_of store ∷ []) }
 {
     let mut list = Vec::from_slice(alloc, &node.list)?;
     list.push(store)?;
+    Ok(list)
+}
+
+/// A node with another list in place of its own.
+pub(crate) fn with_list(
+    alloc: Global,
+    node: &Node,
+    list: Vec<ListedStore>,
+) -> Result<Node, OutOfMemory>
+    ensures { IfOk result (λ n. (image : Memory) →
+        node_told image n ≡ node_over image node.now (listed list.items)) }
+{
     Ok(Node {
         behind: Vec::from_slice(alloc, &node.behind)?,
         list,

@@ -1,6 +1,5 @@
 //! Nodes, each beside those of the same memory and stores.
-ghost use Rattle.std.specs.Prelude.{◌≡◌, ℕ, [], IsTrue, OnOk};
-ghost use Rattle.pages.specs.Memory.{Memory};
+ghost use Rattle.std.specs.Prelude.{◌≡◌, [], IsTrue, OnOk};
 ghost use Rattle.ending_nodes.specs.KeptNodes.{Grow, HaveOneFor};
 
 use crate::marking::mark_of;

@@ -1,26 +1,27 @@
-//! Nodes whose stores are put behind, as far as the harts' runs let them.
-ghost use Rattle.std.specs.Prelude.{◌≡◌, ◌<◌, ◌≤◌, List, length, IfOk, IfSome};
+//! Nodes of which some stores are laid into memory, as far as the harts' runs let them.
+ghost use Rattle.std.specs.Prelude.{◌≡◌, ◌<◌, ◌≤◌, Bool, List, length, IfOk, IfSome};
 ghost use Rattle.hart_step.specs.declared.hart.Hart.{Hart};
 ghost use Rattle.all_endings.specs.Offering.{AreFresh};
-ghost use Rattle.hart_states.specs.States.{stored_of};
+ghost use Rattle.hart_states.specs.States.{listed, stored_of};
 ghost use Rattle.own_moves.specs.Owned.{owns_of};
 ghost use Rattle.list_suffixes.specs.Serving.{IsRaised};
-ghost use Rattle.run_places.specs.Spots.{spots_of};
-ghost use Rattle.ending_nodes.specs.KeptNodes.{node_told};
-ghost use Rattle.ending_nodes.specs.Raising.{AreRight, AreSettled, ServesNext, Settles};
+ghost use Rattle.list_suffixes.specs.Staying.{MayBeLaid};
+ghost use Rattle.ending_nodes.specs.KeptNodes.{node_over, node_told};
+ghost use Rattle.ending_nodes.specs.Raising.{AreKnown, AreRight, AreSettled, IsAgainst, IsLaid, ServesNext};
 
-use crate::laying::laid;
-use crate::node::{Node, with_store};
+use crate::laying::laid_together;
+use crate::node::{Node, longer_list, with_list};
 use crate::program::MappedProgram;
+use crate::staying::{all_stay, held, kept_stores, laid_stores};
 use hart_states::{ListedStore, OpeningMemory};
 use list_suffixes::{longer_lists_are_served, raised_nodes_serve, settled_walks_come_past};
 use pages::OutOfMemory;
 use run_places::{Against, Place};
-use settled_walks::settle;
+use settled_walks::{known_places, mark_staying, settle};
 use std::alloc::Global;
 
-/// The node to which a store leads that comes next. Where all harts' runs go on behind the whole list then, the stores are put behind it; else its
-/// list has the store as well.
+/// The node to which a store leads that comes next. Of the list and this store those are laid into memory that no hart's runs hang on, as far as
+/// that is known.
 ///
 /// # Errors
 ///
@@ -42,61 +43,89 @@ pub fn next_node(
 {
     longer_lists_are_served();
     raised_nodes_serve();
-    let longer = with_store(alloc, node, store)?;
-    let higher = raised(alloc, program, &longer)?;
+    let list = longer_list(alloc, node, store)?;
+    let higher = raised(alloc, program, node, &list)?;
     match higher {
         Some(raised) => Ok(raised),
-        None => Ok(longer),
+        None => {
+            let longer = with_list(alloc, node, list)?;
+            Ok(longer)
+        }
     }
 }
 
-/// The node with its whole list behind it. None where it isn't known how a hart's runs go on from there.
+/// The node with some stores of a longer list laid into memory. None where all of them stay, or it isn't known how a hart's runs go on from there.
 fn raised(
     alloc: Global,
     program: &MappedProgram<'_>,
     node: &Node,
+    list: &[ListedStore],
 ) -> Result<Option<Node>, OutOfMemory>
     requires few { length program.now.maps.now ≤ 64 }
     requires right { AreRight (owns_of program.now.owned.now) program.now.pages.now.memory
         program.now.maps.now }
-    ensures { IfOk result (λ r. IfSome r (λ t. IsRaised (owns_of program.now.owned.now)
-        program.now.steps program.now.pages.now.memory (length program.now.maps.now)
-        (length node.now.list.items) (node_told program.now.pages.now.memory node.now)
+    ensures { IfOk result (λ r. IfSome r (λ t. (stays : List Bool) ×
+        IsRaised (owns_of program.now.owned.now) program.now.steps
+        program.now.pages.now.memory (length program.now.maps.now) stays
+        (node_over program.now.pages.now.memory node.now (listed list.now))
         (node_told program.now.pages.now.memory t))) }
 {
     settled_walks_come_past();
-    let found = settled(alloc, program, node)?;
+    let walked = known(alloc, program, node, list)?;
+    let walks = match walked {
+        Some(walks) => walks,
+        None => return Ok(None),
+    };
+    let stays = staying(alloc, program, node, list, &walks)?;
+    if all_stay(&stays) {
+        return Ok(None);
+    }
+    let found = settled(alloc, program, node, list, &walks, &stays)?;
     let places = match found {
         Some(places) => places,
         None => return Ok(None),
     };
-    let behind = laid(alloc, &node.behind, &node.list)?;
-    Ok(Some(Node {
-        behind,
-        list: Vec::new(alloc),
-        places,
-    }))
+    let over = with_laid(alloc, node, list, &stays, places)?;
+    Ok(Some(over))
 }
 
-/// The places from which each hart's runs go on behind the whole list.
-fn settled(
+/// A node with these places, where some stores of a list stay, and the others are laid into memory.
+fn with_laid(
     alloc: Global,
-    program: &MappedProgram<'_>,
     node: &Node,
+    list: &[ListedStore],
+    stays: &[bool],
+    places: Vec<Vec<Place>>,
+) -> Result<Node, OutOfMemory>
+    ensures { IfOk result (λ t. IsLaid stays.now (listed list.now) node.now places.items t) }
+{
+    let laid = laid_stores(alloc, list, stays)?;
+    Ok(Node {
+        behind: laid_together(alloc, &node.behind, &laid)?,
+        list: kept_stores(alloc, list, stays)?,
+        places,
+    })
+}
+
+/// The places that each hart's runs come to by what is known alone, against a list.
+fn known<'a>(
+    alloc: Global,
+    program: &MappedProgram<'a>,
+    node: &'a Node,
+    list: &'a [ListedStore],
 ) -> Result<Option<Vec<Vec<Place>>>, OutOfMemory>
     requires few { length program.now.maps.now ≤ 64 }
-    requires right { AreRight (owns_of program.now.owned.now) program.now.pages.now.memory
-        program.now.maps.now }
-    ensures { IfOk result (λ r. IfSome r (λ ps. AreSettled (owns_of program.now.owned.now)
+    ensures { IfOk result (λ r. IfSome r (λ ps. AreKnown (owns_of program.now.owned.now)
         program.now.steps program.now.pages.now.memory (length program.now.maps.now)
-        node.now ps.items)) }
+        node.now (listed list.now) ps.items)) }
 {
     let mut all = Vec::new(alloc);
     if program.maps.len() < node.places.len() {
         return Ok(None);
     }
     for hart in 0..node.places.len() {
-        let found = hart_settled(alloc, program, node, hart)?;
+        let against = against_of(program, node, list, hart);
+        let found = known_places(alloc, &against, node.places_of(hart), program.most)?;
         match found {
             Some(places) => all.push(places)?,
             None => return Ok(None),
@@ -105,22 +134,76 @@ fn settled(
     Ok(Some(all))
 }
 
-/// Those of one hart.
-fn hart_settled(
+/// Which stores of a list stay: those that a hart's runs need, and those that meet such a one.
+fn staying<'a>(
     alloc: Global,
-    program: &MappedProgram<'_>,
-    node: &Node,
-    hart: usize,
-) -> Result<Option<Vec<Place>>, OutOfMemory>
+    program: &MappedProgram<'a>,
+    node: &'a Node,
+    list: &'a [ListedStore],
+    walks: &[Vec<Place>],
+) -> Result<Vec<bool>, OutOfMemory>
+    requires few { length program.now.maps.now ≤ 64 }
+    ensures many { IfOk result (λ v. length v.items ≡ length list.now) }
+    ensures free { IfOk result (λ v. MayBeLaid v.items (listed list.now)) }
+{
+    let mut marked = vec![in alloc; false; list.len()]?;
+    for hart in 0..walks.len().min(program.maps.len()) {
+        let against = against_of(program, node, list, hart);
+        mark_staying(
+            alloc,
+            &against,
+            &program.maps[hart],
+            &walks[hart],
+            &mut marked,
+        )?;
+    }
+    let stays = held(alloc, list, &marked)?;
+    Ok(stays)
+}
+
+/// The places from which each hart's runs go on over what the stores leave that are laid into memory.
+fn settled<'a>(
+    alloc: Global,
+    program: &MappedProgram<'a>,
+    node: &'a Node,
+    list: &'a [ListedStore],
+    walks: &[Vec<Place>],
+    stays: &[bool],
+) -> Result<Option<Vec<Vec<Place>>>, OutOfMemory>
     requires few { length program.now.maps.now ≤ 64 }
     requires right { AreRight (owns_of program.now.owned.now) program.now.pages.now.memory
         program.now.maps.now }
-    requires mapped { hart < length program.now.maps.now }
-    ensures { IfOk result (λ r. IfSome r (λ new. Settles (owns_of program.now.owned.now)
+    ensures { IfOk result (λ r. IfSome r (λ ps. AreSettled (owns_of program.now.owned.now)
         program.now.steps program.now.pages.now.memory (length program.now.maps.now)
-        node.now hart (spots_of new.items))) }
+        stays.now node.now (listed list.now) walks.now ps.items)) }
 {
-    let against = Against {
+    let mut all = Vec::new(alloc);
+    if program.maps.len() < node.places.len() || walks.len() < node.places.len() {
+        return Ok(None);
+    }
+    for hart in 0..node.places.len() {
+        let against = against_of(program, node, list, hart);
+        let found = settle(alloc, &against, &program.maps[hart], stays, &walks[hart])?;
+        match found {
+            Some(places) => all.push(places)?,
+            None => return Ok(None),
+        }
+    }
+    Ok(Some(all))
+}
+
+/// What a hart's runs are walked against: a list, over the memory of a node.
+fn against_of<'a>(
+    program: &MappedProgram<'a>,
+    node: &'a Node,
+    list: &'a [ListedStore],
+    hart: usize,
+) -> Against<'a>
+    requires few { length program.now.maps.now ≤ 64 }
+    requires mapped { hart < length program.now.maps.now }
+    ensures { IsAgainst result program.now node.now list.now hart }
+{
+    Against {
         memory: OpeningMemory {
             pages: program.pages,
             behind: &node.behind,
@@ -128,15 +211,7 @@ fn hart_settled(
         hart: hart as u8,
         harts: program.maps.len() as u8,
         owned: program.owned,
-        list: &node.list,
+        list,
         steps: program.steps,
-    };
-    let places = settle(
-        alloc,
-        &against,
-        &program.maps[hart],
-        node.places_of(hart),
-        program.most,
-    )?;
-    Ok(places)
+    }
 }

@@ -1,11 +1,11 @@
 -- Known moves from a state that stands nowhere behind the list leave states that don't, too.
-use Rattle.std.proofs.Common.{◌≡◌, ℕ, ◌+◌, ◌<◌, ◌≤◌, min, Bool, true, false, if◌then◌else◌, List, length, Contains, refl, sym, ap, ◌∙◌, subst, inl, inr, arith}
+use Rattle.std.proofs.Common.{◌≡◌, ℕ, ◌+◌, ◌<◌, ◌≤◌, min, Bool, true, false, if◌then◌else◌, List, length, Contains, refl, inl, inr, arith}
 use Rattle.pages.specs.Memory.{Memory}
 use Rattle.round_schedule.specs.Accesses.{stores}
 use Rattle.memory_order.specs.Registers.{registers_of}
 use Rattle.rule_checker.specs.CarriedBounds.{AreRegisters}
 use Rattle.all_endings.specs.Earlier.{IsSized}
-use Rattle.all_endings.specs.RunStates.{Move, RunState, behind, moved, operates}
+use Rattle.all_endings.specs.RunStates.{Move, RunState, behind, moved}
 use Rattle.all_endings.specs.StoreLists.{Stored, later}
 use Rattle.all_endings.proofs.DecodedRegisters.{decoded_fits}
 use Rattle.hart_states.specs.declared.following.Successor.{Successor}
@@ -16,13 +16,13 @@ use Rattle.private_bytes.specs.Owners.{is_private}
 use Rattle.private_bytes.specs.PrivateMoves.{moved_privately}
 use Rattle.private_bytes.specs.PrivateTimes.{EarliestPrivateMoveIsLowest}
 use Rattle.private_bytes.specs.PrivateWalks.{Spot, spot_after}
-use Rattle.list_suffixes.specs.ApartRuns.{MovesApart, StandsForAlways}
+use Rattle.list_suffixes.specs.ApartRuns.{MovesApart}
 use Rattle.list_suffixes.specs.SettledWalks.{IsKnown}
 use Rattle.run_places.proofs.Losing.{lost_by}
-use Rattle.settled_walks.specs.SettledPlaces.{IsFollowedBy}
+use Rattle.settled_walks.specs.KnownWalks.{IsFollowedBy}
 use Rattle.settled_walks.specs.Within.{IsWithin}
 use Rattle.settled_walks.proofs.KnownStates.{moved_within, privately_within, within_ahead}
-use Rattle.settled_walks.proofs.SettledSpots.{ahead_on}
+use Rattle.run_places.proofs.Standing.{ahead_by}
 use Rattle.settled_walks.proofs.Sooner.{IsSooner, sooner}
 
 -- the time behind an operation that is known
@@ -72,7 +72,7 @@ module _ (owns : ℕ → ℕ → Bool) (image : Memory) (h : ℕ) (m : List Stor
       (privately_within (length m) h a u.0 within sized (fit u.0 is.moves) m is.time)))
     where
       as_other : (u : Move) → IsSooner owns image h m opening (length m) p v u → IsFollowedBy owns h m p u ps → IsFollowedBy owns h m p v ps
-      as_other u is (inl ahead) = inl (ahead_on ps (spot_after owns h m p u) (spot_after owns h m p v) ahead is.stands)
+      as_other u is (inl ahead) = inl (ahead_by ps (spot_after owns h m p u) (spot_after owns h m p v) ahead is.stands)
       as_other u is (inr lost) = inr (lost_by h m (spot_after owns h m p u) (spot_after owns h m p v) (is.stands m) lost)
 
   pub known_followed : LowerStatesAreAhead → EarliestPrivateMoveIsLowest → (v : Move) → MovesApart owns image h m opening p v → IsKnown owns h m v → IsFollowedBy owns h m p v ps

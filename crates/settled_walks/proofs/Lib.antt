@@ -1,7 +1,8 @@
 mod Counted
+mod KeptBytes
 mod KnownMoves
 mod KnownStates
 mod LostPlaces
 mod SettledSpots
-mod SinceBytes
 mod Sooner
+mod Times

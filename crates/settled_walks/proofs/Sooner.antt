@@ -1,16 +1,15 @@
 -- From a state whose times are all at most a number, what a hart does to its own bytes it can do as soon as that.
-use Rattle.std.proofs.Common.{◌≡◌, ℕ, ◌+◌, ◌<◌, ◌≤◌, Bool, true, false, if◌then◌else◌, List, Some, refl, sym, ap, ◌∙◌, subst, inl, inr, arith}
+use Rattle.std.proofs.Common.{◌≡◌, ℕ, ◌+◌, ◌≤◌, Bool, true, false, if◌then◌else◌, List, refl, sym, ap, ◌∙◌, inl, inr, arith}
 use Rattle.std.proofs.lemmas.Bool.{cases_lt}
 use Rattle.pages.specs.Memory.{Memory}
 use Rattle.round_schedule.specs.declared.access.Access.{Access}
-use Rattle.hart_step.specs.DecodedCode.{decoded}
 use Rattle.memory_order.specs.Operations.{is_plain_store}
 use Rattle.memory_order.specs.Registers.{registers_of}
 use Rattle.rule_checker.specs.CarriedBounds.{AreRegisters}
 use Rattle.all_endings.specs.Earlier.{IsSized}
 use Rattle.all_endings.specs.HartRuns.{Acts, IsPlaced, Stands, acts, branches, calls, exchanges, exchanges-unknown, fails, jumps, orders, puts, puts-unknown, reads, reserves, succeeds}
 use Rattle.all_endings.specs.HartRuns.{stores as stores_it}
-use Rattle.all_endings.specs.RunStates.{Move, RunState, moved, operates}
+use Rattle.all_endings.specs.RunStates.{Move, RunState}
 use Rattle.all_endings.specs.StoreLists.{Stored}
 use Rattle.all_endings.specs.Walking.{Place, place_after}
 use Rattle.all_endings.proofs.DecodedRegisters.{decoded_fits}
@@ -18,7 +17,7 @@ use Rattle.private_bytes.specs.Ahead.{IsAhead, LowerStatesAreAhead}
 use Rattle.private_bytes.specs.Owners.{is_private}
 use Rattle.private_bytes.specs.PrivateMoves.{ActsApart, keeps, moved_privately, recalls, shares}
 use Rattle.private_bytes.specs.PrivateTimes.{EarliestPrivateMoveIsLowest}
-use Rattle.private_bytes.specs.PrivateWalks.{Spot, StandsForApart, constant_after, spot_after}
+use Rattle.private_bytes.specs.PrivateWalks.{Spot, constant_after, spot_after}
 use Rattle.list_suffixes.specs.ApartRuns.{MovesApart, StandsForAlways}
 use Rattle.settled_walks.specs.Within.{IsWithin}
 

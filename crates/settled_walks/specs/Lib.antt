@@ -1,3 +1,4 @@
+pub mod Kept
+pub mod KnownWalks
 pub mod SettledPlaces
-pub mod Since
 pub mod Within

@@ -1,7 +1,7 @@
 //! Whether a hart may end at a place.
 ghost use Rattle.std.specs.Prelude.{◌≡◌, false, IfOk};
 ghost use Rattle.hart_states.specs.States.{state_of};
-ghost use Rattle.settled_walks.specs.SettledPlaces.{GoesOn};
+ghost use Rattle.settled_walks.specs.KnownWalks.{GoesOn};
 
 use all_endings::stops_are_known;
 use hart_moves::{knows_registers, stop_of};

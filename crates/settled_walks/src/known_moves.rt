@@ -7,7 +7,7 @@ ghost use Rattle.own_moves.specs.Moves.{FollowsApart};
 ghost use Rattle.own_moves.specs.Owned.{owns_of};
 ghost use Rattle.private_bytes.specs.PrivateWalks.{constant_after};
 ghost use Rattle.run_places.specs.Spots.{Grows, spot_of, spots_of};
-ghost use Rattle.settled_walks.specs.SettledPlaces.{CoverKnown, IsFollowedBy};
+ghost use Rattle.settled_walks.specs.KnownWalks.{CoverKnown, IsFollowedBy};
 ghost use Rattle.settled_walks.specs.Within.{IsWithin};
 
 use crate::losing::cant_pay;

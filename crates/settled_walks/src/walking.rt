@@ -1,119 +1,109 @@
 //! A walk by what is known alone.
-ghost use Rattle.std.specs.Prelude.{◌≡◌, List, Contains, length, IfOk, IfSome, OnOk};
-ghost use Rattle.early_reads.specs.Checking.{map_of};
-ghost use Rattle.early_reads.specs.EarlyMaps.{IsRight};
+ghost use Rattle.std.specs.Prelude.{◌≡◌, length, IfOk, IfSome, IsTrue};
 ghost use Rattle.hart_states.specs.Opening.{opening_of};
 ghost use Rattle.hart_states.specs.States.{listed};
 ghost use Rattle.list_suffixes.specs.Serving.{Node};
-ghost use Rattle.list_suffixes.specs.SettledWalks.{AreAhead, IsSettledWalk};
 ghost use Rattle.own_moves.specs.Owned.{owns_of};
-ghost use Rattle.private_bytes.specs.PrivateWalks.{Spot};
 ghost use Rattle.run_places.specs.Spots.{Grows, spot_of, spots_of};
-ghost use Rattle.settled_walks.specs.SettledPlaces.{AreSettled, new_told};
+ghost use Rattle.settled_walks.specs.KnownWalks.{AreKnown, IsKnownAt, IsKnownWalk, IsTold};
 
-use crate::settling::{Settled, settle_at};
-use all_endings::stops_are_known;
-use early_reads::{EarlyPoint, settled_spots_are_late};
+use crate::known_moves::known_behind;
+use crate::within::is_within;
 use pages::OutOfMemory;
-use run_places::{Against, Place, Places, begun};
+use run_places::{Against, Place, Places, add_all, begun, is_open_call, strays};
 use std::alloc::Global;
 
-/// The places from which a hart's runs go on behind a whole list, by a map of its code that is right, and from some places on, as far as they come
-/// by what is known alone. None where that isn't known of a place, or there are more places than `most`.
+/// The places that a hart's runs come to from some places by what is known alone. None where that isn't known of a place, or there are more places
+/// than `most`.
 ///
 /// # Errors
 ///
 /// `OutOfMemory` alone.
-pub fn settle(
+pub fn known_places(
     alloc: Global,
     against: &Against<'_>,
-    points: &[EarlyPoint],
     begin: &[Place],
     most: usize,
 ) -> Result<Option<Vec<Place>>, OutOfMemory>
-    requires right { IsRight (map_of points.now) (owns_of against.now.owned.now)
-        against.now.memory.pages.now.memory against.now.hart }
-    ensures { IfOk result (λ r. IfSome r (λ new. (n : Node) →
+    ensures { IfOk result (λ r. IfSome r (λ ps. (n : Node) →
         n.stores ≡ listed against.now.list.now → n.memory ≡ opening_of against.now.memory →
-        n.spots against.now.hart ≡ spots_of begin.now → (ps : List Spot) ×
-        IsSettledWalk (owns_of against.now.owned.now) against.now.steps
-        against.now.memory.pages.now.memory against.now.harts against.now.hart
-        (length against.now.list.now) n ps (spots_of new.items))) }
+        n.spots against.now.hart ≡ spots_of begin.now →
+        IsKnownWalk (owns_of against.now.owned.now) against.now.steps
+        against.now.memory.pages.now.memory against.now.harts against.now.hart n
+        (spots_of ps.items))) }
 {
-    stops_are_known();
-    settled_spots_are_late();
     let mut places = begun(alloc, begin)?;
-    settle_on(alloc, against, points, &mut places, most)
+    let whole = walk_known(alloc, against, &mut places, most)?;
+    if !whole {
+        return Ok(None);
+    }
+    Ok(Some(places.all))
 }
 
-/// Follows places, and those that they lead to, and keeps the new ones.
-fn settle_on(
+/// Follows places, and those that they lead to. Says whether all were followed.
+fn walk_known(
     alloc: Global,
     against: &Against<'_>,
-    points: &[EarlyPoint],
     places: &mut Places,
     most: usize,
-) -> Result<Option<Vec<Place>>, OutOfMemory>
-    ensures { IfOk result (λ r. IfSome r (λ new. (ps : List Spot) ×
-        ((p : Spot) → Contains (spots_of places.old.all.items) p → Contains ps p) ×
-        AreSettled (map_of points.now) (owns_of against.now.owned.now) against.now.steps
-        against.now.memory.pages.now.memory against.now.harts against.now.hart
-        (listed against.now.list.now) (opening_of against.now.memory) ps
-        (spots_of new.items))) }
+) -> Result<bool, OutOfMemory>
+    ensures grows { IfOk result (λ b. IsTrue b →
+        Grows places.old.all.items places.new.all.items) }
+    ensures known { IfOk result (λ b. IsTrue b → AreKnown (owns_of against.now.owned.now)
+        against.now.steps against.now.memory.pages.now.memory against.now.harts against.now.hart
+        (listed against.now.list.now) (opening_of against.now.memory)
+        (spots_of places.new.all.items)) }
 {
-    let mut new = Places::new(alloc);
     for done in 0..most {
         if done >= places.all.len() {
-            return Ok(Some(new.all));
+            return Ok(true);
         }
-        match settle_at(alloc, against, points, &places.all[done])? {
-            Some(settled) => take_in(places, &mut new, settled)?,
-            None => return Ok(None),
+        match known_at(alloc, against, &places.all[done])? {
+            Some(reached) => add_all(places, reached)?,
+            None => return Ok(false),
         }
     }
-    Ok(None)
+    Ok(false)
 }
 
-/// Keeps what was found at a place.
-fn take_in(places: &mut Places, new: &mut Places, settled: Settled) -> Result<(), OutOfMemory>
-    ensures grows { OnOk result (Grows places.old.all.items places.new.all.items) }
-    ensures reached { OnOk result ((p : Spot) → AreAhead (spots_of settled.reached.items) p →
-        AreAhead (spots_of places.new.all.items) p) }
-    ensures new_grow { OnOk result (Grows new.old.all.items new.new.all.items) }
-    ensures new { OnOk result ((p : Spot) → AreAhead (new_told settled.new) p →
-        AreAhead (spots_of new.new.all.items) p) }
+/// The places behind the known moves of a place. None where something isn't known of it.
+fn known_at(
+    alloc: Global,
+    against: &Against<'_>,
+    place: &Place,
+) -> Result<Option<Vec<Place>>, OutOfMemory>
+    ensures { IfOk result (λ r. IfSome r (λ ps. IsKnownAt (owns_of against.now.owned.now)
+        against.now.steps against.now.memory.pages.now.memory against.now.harts against.now.hart
+        (listed against.now.list.now) (opening_of against.now.memory) (spots_of ps.items)
+        (spot_of place.now))) }
 {
-    let Settled {
-        reached,
-        new: behind,
-    } = settled;
-    add_each(places, reached)?;
-    add_new(new, behind)
-}
-
-/// Adds places, but for those for which others stand.
-fn add_each(places: &mut Places, reached: Vec<Place>) -> Result<(), OutOfMemory>
-    ensures grows { OnOk result (Grows places.old.all.items places.new.all.items) }
-    ensures ahead { OnOk result ((p : Spot) → AreAhead (spots_of reached.items) p →
-        AreAhead (spots_of places.new.all.items) p) }
-{
-    for place in reached {
-        places.add(place)?;
+    if !is_told(against, place) {
+        return Ok(None);
     }
-    Ok(())
-}
-
-/// Adds a place, if there is one.
-fn add_new(places: &mut Places, new: Option<Place>) -> Result<(), OutOfMemory>
-    ensures grows { OnOk result (Grows places.old.all.items places.new.all.items) }
-    ensures ahead { OnOk result ((p : Spot) → AreAhead (new_told new) p →
-        AreAhead (spots_of places.new.all.items) p) }
-{
-    match new {
-        Some(place) => {
-            places.add(place)?;
-            Ok(())
-        }
-        None => Ok(()),
+    has_all(&place.state.registers);
+    match known_behind(alloc, against, place)? {
+        Some(reached) => Ok(Some(reached)),
+        None => Ok(None),
     }
 }
+
+/// Whether a walk by what is known can go on from a place: the number of a call that comes is a constant, what comes touches nothing that isn't the
+/// hart's to touch so, and nothing stands behind the list.
+fn is_told(against: &Against<'_>, place: &Place) -> bool
+    ensures { IsTrue result → IsTold (owns_of against.now.owned.now)
+        against.now.memory.pages.now.memory against.now.harts against.now.hart
+        (length against.now.list.now) (spot_of place.now) }
+{
+    if is_open_call(against.memory.pages, place) {
+        return false;
+    }
+    if let Some(_) = strays(against, place) {
+        return false;
+    }
+    is_within(&place.state, against.list.len())
+}
+
+/// There are 32 registers.
+fn has_all(registers: &[Option<u64>; 32])
+    ensures { length registers.now ≡ 32 }
+{}

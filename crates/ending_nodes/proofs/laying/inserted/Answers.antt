@@ -1,4 +1,4 @@
-use Rattle.std.proofs.Common.{◌≡◌, ℕ, ◌∙◌, List, take, refl, ap}
+use Rattle.std.proofs.Common.{◌≡◌, ◌∙◌, List, take, refl, ap}
 use Rattle.std.proofs.lemmas.List.{take_all}
 use Rattle.all_endings.specs.Tables.{memory_of}
 use Rattle.hart_states.specs.declared.listed_store.ListedStore.{ListedStore}

@@ -1,4 +1,4 @@
-use Rattle.std.proofs.Common.{◌≡◌, ◌∙◌, refl}
+use Rattle.std.proofs.Common.{◌∙◌}
 use Rattle.all_endings.specs.Tables.{memory_of}
 use Rattle.hart_states.specs.States.{listed, stored_of}
 use Rattle.ending_nodes.proofs.Memories.{left_off, left_on}

@@ -1,4 +1,4 @@
-use Rattle.std.proofs.Common.{◌≡◌, ℕ, List, [], ◌∷◌, length, refl, ap, arith, length-append}
+use Rattle.std.proofs.Common.{List, [], ◌∷◌, length, refl, ap, arith, length-append}
 use Rattle.std.specs.Global.{Vec}
 use Rattle.run_places.specs.declared.place.Place.{Place}
 use Rattle.run_places.specs.Spots.{spots_of}

@@ -1,4 +1,4 @@
-use Rattle.std.proofs.Common.{◌∷◌, ◌++◌, [], List, ◌∙◌, ap, refl}
+use Rattle.std.proofs.Common.{refl}
 use Rattle.hart_ends.proofs.Told.{new}
 use Rattle.run_places.specs.Spots.{spot_of}
 use Rattle.ending_nodes.proofs.node.one_place.Goals as goal

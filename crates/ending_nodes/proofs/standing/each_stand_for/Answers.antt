@@ -1,4 +1,4 @@
-use Rattle.std.proofs.Common.{◌≡◌, ℕ, ◌<◌, length, inl, inr, arith}
+use Rattle.std.proofs.Common.{◌≡◌, inl, inr, arith}
 use Rattle.std.proofs.lemmas.Bool.{cases_lt}
 use Rattle.ending_nodes.proofs.KeptNodes.{none_past, stand_here}
 use Rattle.ending_nodes.proofs.standing.each_stand_for.Goals as goal

@@ -1,4 +1,4 @@
-use Rattle.std.proofs.Common.{◌≡◌, ◌∙◌, List, Contains, sym, subst}
+use Rattle.std.proofs.Common.{◌∙◌, List, Contains, sym, subst}
 use Rattle.std.specs.Global.{Vec}
 use Rattle.list_suffixes.specs.SettledWalks.{AreAhead}
 use Rattle.run_places.specs.declared.place.Place.{Place}

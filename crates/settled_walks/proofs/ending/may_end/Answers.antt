@@ -1,4 +1,4 @@
-use Rattle.std.proofs.Common.{◌≡◌, true, false, None, Some, sym, ap, ◌∙◌}
+use Rattle.std.proofs.Common.{◌≡◌, true, false, None, Some, sym, ◌∙◌}
 use Rattle.hart_step.specs.declared.hart.Stop.{Stop}
 use Rattle.hart_states.specs.States.{state_of}
 use Rattle.settled_walks.proofs.ending.may_end.Goals as goal

@@ -1,4 +1,4 @@
-use Rattle.std.proofs.Common.{◌≡◌, ◌∙◌, List, length, Contains, map-id, sym, ap, subst, inl, inr, rules}
+use Rattle.std.proofs.Common.{◌≡◌, ◌∙◌, List, length, Contains, map-id, sym, subst, inl, inr, rules}
 use Rattle.std.proofs.lemmas.Iterator.Adapters.{YieldsList-from_vec}
 use Rattle.std.proofs.lemmas.Iterator.Consumers.{YieldsList-end}
 use Rattle.std.specs.Vec.Iter.{into_iter_items, into_iter_len}
@@ -8,7 +8,8 @@ use Rattle.hart_states.specs.States.{listed, state_of}
 use Rattle.hart_states.specs.declared.following.Successor.{Successor}
 use Rattle.run_places.specs.Spots.{spot_of, spots_of}
 use Rattle.settled_walks.specs.Within.{IsWithin}
-use Rattle.settled_walks.proofs.SettledSpots.{ahead_stays, followed_more}
+use Rattle.run_places.proofs.Standing.{ahead_stays}
+use Rattle.settled_walks.proofs.SettledSpots.{followed_more}
 use Rattle.settled_walks.proofs.known_moves.all_behind.Goals as goal
 
 pub loop-successor-preserved : goal.loop-successor-preserved

@@ -5,7 +5,7 @@ use Rattle.private_bytes.specs.PrivateWalks.{constant_after}
 use Rattle.hart_states.specs.States.{listed, state_of}
 use Rattle.hart_states.specs.declared.following.Successor.{Successor}
 use Rattle.run_places.specs.Spots.{spot_of, spots_of}
-use Rattle.settled_walks.specs.SettledPlaces.{IsFollowedBy}
+use Rattle.settled_walks.specs.KnownWalks.{IsFollowedBy}
 use Rattle.settled_walks.specs.Within.{IsWithin}
 use Rattle.settled_walks.proofs.known_moves.all_behind.Given as goal
 

@@ -1,6 +1,6 @@
 use Rattle.std.proofs.Common.{refl, arith}
 use Rattle.settled_walks.specs.Within.{IsByteWithin}
-use Rattle.settled_walks.proofs.SinceBytes.{each_known}
+use Rattle.settled_walks.proofs.KeptBytes.{each_known}
 use Rattle.settled_walks.proofs.within.bytes_within.Goals as goal
 
 pub returns : goal.returns

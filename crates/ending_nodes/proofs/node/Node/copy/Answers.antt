@@ -1,4 +1,4 @@
-use Rattle.std.proofs.Common.{◌≡◌, List, ◌∙◌, ap}
+use Rattle.std.proofs.Common.{List, ◌∙◌, ap}
 use Rattle.std.specs.Global.{Vec}
 use Rattle.run_places.specs.declared.place.Place.{Place}
 use Rattle.ending_nodes.specs.declared.node.Node.{Node}
