@@ -1,5 +1,5 @@
 -- Bytes of memory, one after another.
-use Rattle.std.proofs.Common.{◌≡◌, ℕ, zero, suc, ◌+◌, List, [], ◌∷◌, ◌++◌, sym, ap, ◌∙◌, subst, arith}
+use Rattle.std.proofs.Common.{◌≡◌, ℕ, zero, suc, ◌+◌, List, [], ◌∷◌, ◌++◌, ap, ◌∙◌, subst, arith}
 use Rattle.all_endings.specs.Endings.{bytes_from}
 
 all_but_last : (m : ℕ → ℕ) (a n : ℕ) → bytes_from m a (suc n) ≡ bytes_from m a n ++ m (a + n) ∷ []

@@ -1,4 +1,5 @@
 pub mod Bytes
 pub mod Looked
 pub mod Nobodys
+pub mod Taken
 pub mod Walked

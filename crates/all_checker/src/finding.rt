@@ -1,32 +1,27 @@
 //! The table of all endings.
-ghost use Rattle.std.specs.Prelude.{◌≡◌, ◌+◌, ◌*◌, ◌≤◌, ◌<◌, ◌^◌, [], ℕ, Bool, List, length, All as Each, Contains, IfOk, IsTrue, OnOk};
-ghost use Rattle.pages.specs.declared.access.Range.{Range as Seen};
-ghost use Rattle.pages.specs.Memory.{Memory};
+ghost use Rattle.std.specs.Prelude.{◌≡◌, ◌+◌, ◌*◌, ◌≤◌, ◌<◌, ◌^◌, length, All as Each, IfOk, IsTrue};
 ghost use Rattle.hart_step.specs.Console.{output_room};
-ghost use Rattle.hart_step.specs.declared.hart.Hart.{Hart as Begun};
-ghost use Rattle.all_endings.specs.Endings.{Ending};
 ghost use Rattle.all_endings.specs.Offering.{AreFresh};
-ghost use Rattle.hart_ends.specs.Told.{bytes_told, table_told};
 ghost use Rattle.own_moves.specs.Owned.{owns_of};
 ghost use Rattle.private_bytes.specs.PrivateWalks.{AreNobodys};
-ghost use Rattle.list_suffixes.specs.NodeWalks.{IsLookedThroughFrom, seen_from};
-ghost use Rattle.list_suffixes.specs.Serving.{IsServed, Node};
-ghost use Rattle.ending_nodes.specs.KeptNodes.{Grow, node_told, nodes_told};
 ghost use Rattle.ending_nodes.specs.Raising.{AreRight};
-ghost use Rattle.all_checker.specs.Nodes.{AreWalked};
 ghost use Rattle.all_checker.specs.Tables.{IsFoundOf};
 
-use crate::looking::{Look, NodeWalks, add_nodes, look_through};
+use crate::guest::Guest;
 use crate::mapping::right_maps;
-use crate::memory::seen_at;
 use crate::owning::{unseen, without};
-use ending_nodes::{MappedProgram, Node as KeptNode, Nodes, first_node};
-use hart_ends::{TableEnding, add_endings};
-use hart_step::Hart;
+use crate::sighting::{Batch, sights_of};
+use crate::taking::{LookedNodes, none_taken, take_batch};
+use ending_nodes::MappedProgram;
+use hart_ends::TableEnding;
 use list_suffixes::node_tables_are_whole;
-use pages::{OutOfMemory, Pages, Range};
+use pages::OutOfMemory;
 use run_places::{Omission, OwnDoubleword};
 use std::alloc::Global;
+use std::thread::Threads;
+
+/// So many nodes at most are looked at before their next nodes are taken in, whatever the number of workers: so that tells nothing of them.
+const BATCH: usize = 64;
 
 /// How far is looked.
 #[derive(Clone, Copy)]
@@ -68,7 +63,8 @@ pub enum Found {
 }
 
 /// All endings of a guest under RVWMO, over all executions in which no hart does more than so many instructions. Endings show the bytes of
-/// some ranges of memory, and what each hart put out by itself. The observer looks on.
+/// some ranges of memory, and what each hart put out by itself. Nodes are looked through by so many workers at the same time; what is found
+/// doesn't hang on how many. The observer looks on.
 ///
 /// Of some doublewords the caller may think that one hart alone touches them: then stores to them aren't listed. Where that isn't so, it is
 /// begun anew without them, and the bounds count anew.
@@ -76,33 +72,33 @@ pub enum Found {
 /// # Errors
 ///
 /// `OutOfMemory` alone.
-pub fn find_all<O: ListsObserver>(
+pub fn find_all<O: ListsObserver, R: Threads + Sync>(
+    rt: &R,
     alloc: Global,
-    pages: &Pages,
-    harts: &[Hart],
-    see: &[Range],
+    guest: &Guest<'_>,
     hint: &[OwnDoubleword],
     bounds: Bounds,
+    workers: u32,
     observer: &mut O,
 ) -> Result<Found, OutOfMemory>
-    requires few { length harts.now ≤ 64 }
-    requires fresh { AreFresh harts.now }
-    requires ranges { Each (λ r. r.start + r.len < 2 ^ 64) see.now }
-    ensures { IfOk result (λ f.
-        IsFoundOf bounds.steps pages.now.memory harts.now see.now f) }
+    requires few { length guest.now.harts.now ≤ 64 }
+    requires fresh { AreFresh guest.now.harts.now }
+    requires ranges { Each (λ r. r.start + r.len < 2 ^ 64) guest.now.see.now }
+    ensures { IfOk result (λ f. IsFoundOf bounds.steps guest.now.pages.now.memory
+        guest.now.harts.now guest.now.see.now f) }
 {
-    if !has_room(bounds.steps, harts.len()) {
+    if !has_room(bounds.steps, guest.harts.len()) {
         return Ok(Found::Unknown(Reason::Room));
     }
     let mut owned = Vec::from_slice(alloc, hint)?;
     for _ in 0..hint.len() {
-        let found = look_at_all(alloc, pages, harts, see, &owned, bounds, observer)?;
+        let found = look_at_all(rt, alloc, guest, &owned, bounds, workers, observer)?;
         match strayed_to(&found) {
             Some(doubleword) => owned = without(alloc, &owned, doubleword)?,
             None => return Ok(found),
         }
     }
-    look_at_all(alloc, pages, harts, see, &owned, bounds, observer)
+    look_at_all(rt, alloc, guest, &owned, bounds, workers, observer)
 }
 
 /// The doubleword that a hart strayed to, if that is why nothing is said.
@@ -114,121 +110,90 @@ fn strayed_to(found: &Found) -> Option<u64> {
 }
 
 /// All endings, where one hart alone touches these doublewords, but for those that are seen.
-fn look_at_all<O: ListsObserver>(
+fn look_at_all<O: ListsObserver, R: Threads + Sync>(
+    rt: &R,
     alloc: Global,
-    pages: &Pages,
-    harts: &[Hart],
-    see: &[Range],
+    guest: &Guest<'_>,
     hint: &[OwnDoubleword],
     bounds: Bounds,
+    workers: u32,
     observer: &mut O,
 ) -> Result<Found, OutOfMemory>
-    requires few { length harts.now ≤ 64 }
-    requires fresh { AreFresh harts.now }
-    requires ranges { Each (λ r. r.start + r.len < 2 ^ 64) see.now }
-    requires room { bounds.steps * length harts.now ≤ output_room }
-    ensures { IfOk result (λ f.
-        IsFoundOf bounds.steps pages.now.memory harts.now see.now f) }
+    requires few { length guest.now.harts.now ≤ 64 }
+    requires fresh { AreFresh guest.now.harts.now }
+    requires ranges { Each (λ r. r.start + r.len < 2 ^ 64) guest.now.see.now }
+    requires room { bounds.steps * length guest.now.harts.now ≤ output_room }
+    ensures { IfOk result (λ f. IsFoundOf bounds.steps guest.now.pages.now.memory
+        guest.now.harts.now guest.now.see.now f) }
 {
-    let owned = unseen(alloc, hint, see)?;
-    let maps = right_maps(alloc, pages, &owned, harts)?;
+    let owned = unseen(alloc, hint, guest.see)?;
+    let maps = right_maps(alloc, guest.pages, &owned, guest.harts)?;
     let program = MappedProgram {
-        pages,
+        pages: guest.pages,
         owned: &owned,
         maps: &maps,
         steps: bounds.steps,
         most: bounds.places,
     };
-    look_at_nodes(alloc, &program, harts, see, bounds, observer)
+    look_at_nodes(rt, alloc, &program, guest, bounds, workers, observer)
 }
 
-/// All endings of a program whose code is mapped.
-fn look_at_nodes<O: ListsObserver>(
+/// All endings of a guest whose code is mapped.
+fn look_at_nodes<O: ListsObserver, R: Threads + Sync>(
+    rt: &R,
     alloc: Global,
     program: &MappedProgram<'_>,
-    harts: &[Hart],
-    see: &[Range],
+    guest: &Guest<'_>,
     bounds: Bounds,
+    workers: u32,
     observer: &mut O,
 ) -> Result<Found, OutOfMemory>
     requires few { length program.now.maps.now ≤ 64 }
     requires right { AreRight (owns_of program.now.owned.now) program.now.pages.now.memory
         program.now.maps.now }
-    requires harts { length harts.now ≡ length program.now.maps.now }
-    requires fresh { AreFresh harts.now }
-    requires nobodys { AreNobodys (owns_of program.now.owned.now) (length harts.now) see.now }
-    requires ranges { Each (λ r. r.start + r.len < 2 ^ 64) see.now }
-    requires room { program.now.steps * length harts.now ≤ output_room }
-    ensures { IfOk result (λ f.
-        IsFoundOf program.now.steps program.now.pages.now.memory harts.now see.now f) }
+    requires harts { length guest.now.harts.now ≡ length program.now.maps.now }
+    requires fresh { AreFresh guest.now.harts.now }
+    requires nobodys { AreNobodys (owns_of program.now.owned.now) (length guest.now.harts.now)
+        guest.now.see.now }
+    requires ranges { Each (λ r. r.start + r.len < 2 ^ 64) guest.now.see.now }
+    requires room { program.now.steps * length guest.now.harts.now ≤ output_room }
+    ensures { IfOk result (λ f. IsFoundOf program.now.steps program.now.pages.now.memory
+        guest.now.harts.now guest.now.see.now f) }
 {
     node_tables_are_whole();
-    let mut nodes = first_nodes(alloc, harts)?;
-    let mut table = Vec::new(alloc);
-    let mut left = bounds.places;
-    for done in 0..bounds.nodes {
-        if done >= nodes.all.len() {
-            return Ok(Found::All(table));
+    let mut taken = none_taken(alloc, guest.harts, bounds.places)?;
+    while taken.done < taken.nodes.all.len() {
+        if taken.done >= bounds.nodes {
+            return Ok(Found::Unknown(Reason::Nodes));
         }
-        if !observer.look(done as u64) {
+        if !observer.look(taken.done as u64) {
             return Ok(Found::Unknown(Reason::Time));
         }
-        let node = nodes.all[done].copy(alloc)?;
-        match look_through(alloc, program, &node, left)? {
-            Look::Unknown(why) => return Ok(Found::Unknown(Reason::Runs(why))),
-            Look::Whole(walks) => {
-                left = left.saturating_sub(walks.places);
-                let seen = seen_at(alloc, program.pages, see, &node)?;
-                take_in(alloc, program, &mut nodes, &mut table, &node, &walks, &seen)?;
-            }
+        let batch = next_batch(&taken, bounds.nodes);
+        let slots = sights_of(rt, alloc, program, guest.see, &batch, workers)?;
+        if let Some(why) = take_batch(alloc, program, guest, &mut taken, slots)? {
+            return Ok(Found::Unknown(Reason::Runs(why)));
         }
     }
-    Ok(Found::Unknown(Reason::Nodes))
+    Ok(Found::All(taken.table))
 }
 
-/// The node where harts begin alone.
-fn first_nodes(alloc: Global, harts: &[Hart]) -> Result<Nodes, OutOfMemory>
-    ensures { IfOk result (λ ns. AreFresh harts.now →
-        (owns : ℕ → ℕ → Bool) (k : ℕ) (image : Memory) →
-        (n : Node) × Contains (nodes_told image ns.all.items) n ×
-        IsServed owns k image harts.now n []) }
+/// The next nodes that are there, but not more than so many in all.
+fn next_batch(taken: &LookedNodes, most: usize) -> Batch<'_>
+    requires more { taken.now.done < length taken.now.nodes.all.items }
+    requires few { taken.now.done < most }
+    ensures nodes { result.nodes.now ≡ taken.now.nodes.all.items }
+    ensures from { result.from ≡ taken.now.done }
+    ensures some { 0 < result.count }
+    ensures within { result.from + result.count ≤ length taken.now.nodes.all.items }
 {
-    let mut nodes = Nodes::new(alloc);
-    let first = first_node(alloc, harts)?;
-    nodes.add(first)?;
-    Ok(nodes)
-}
-
-/// Keeps what follows a node, and its endings over the bytes that are seen.
-fn take_in(
-    alloc: Global,
-    program: &MappedProgram<'_>,
-    nodes: &mut Nodes,
-    table: &mut Vec<TableEnding>,
-    node: &KeptNode,
-    walks: &NodeWalks,
-    seen: &[Vec<u8>],
-) -> Result<(), OutOfMemory>
-    requires few { length program.now.maps.now ≤ 64 }
-    requires right { AreRight (owns_of program.now.owned.now) program.now.pages.now.memory
-        program.now.maps.now }
-    ensures grow { OnOk result (Grow nodes.old.all.items nodes.new.all.items) }
-    ensures kept { OnOk result ((e : Ending) → Contains (table_told table.old.items) e →
-        Contains (table_told table.new.items) e) }
-    ensures looked { OnOk result ((hs : List Begun) (see : List Seen) →
-        length hs ≡ length program.now.maps.now → AreFresh hs →
-        AreWalked (owns_of program.now.owned.now) program.now.steps
-        program.now.pages.now.memory (length program.now.maps.now)
-        (node_told program.now.pages.now.memory node.now) walks.now →
-        bytes_told seen.now ≡ seen_from see (node_told program.now.pages.now.memory node.now) →
-        IsLookedThroughFrom (owns_of program.now.owned.now) program.now.steps
-        program.now.pages.now.memory hs see
-        (nodes_told program.now.pages.now.memory nodes.new.all.items)
-        (table_told table.new.items) (node_told program.now.pages.now.memory node.now)) }
-{
-    add_endings(alloc, table, &walks.ways, seen)?;
-    add_nodes(alloc, program, nodes, node, &walks.offered)?;
-    Ok(())
+    let there = taken.nodes.all.len().min(most) - taken.done;
+    Batch {
+        nodes: &taken.nodes.all,
+        from: taken.done,
+        count: there.min(BATCH) as u32,
+        most: taken.left,
+    }
 }
 
 /// Whether the console has room for a byte of each instruction.

@@ -3,11 +3,15 @@
 #![tactic(auto)]
 
 mod finding;
+mod guest;
 mod looking;
 mod mapping;
 mod memory;
 mod owning;
+mod sighting;
+mod taking;
 
 pub use finding::{Bounds, Found, ListsObserver, Reason, find_all};
+pub use guest::Guest;
 pub use hart_ends::{HartEnd, TableEnding};
 pub use run_places::{Omission, OwnDoubleword};

@@ -1,14 +1,14 @@
 //! What all harts may do from one node on.
-ghost use Rattle.std.specs.Prelude.{◌≡◌, ◌<◌, ◌≤◌, [], ℕ, List, length, slice_index_or, Contains, IfOk, OnOk};
+ghost use Rattle.std.specs.Prelude.{◌≡◌, ◌<◌, ◌≤◌, [], ℕ, List, length, Contains, IfOk, OnOk};
 ghost use Rattle.all_endings.specs.StoreLists.{Stored};
 ghost use Rattle.hart_states.specs.States.{listed, stored_of};
 ghost use Rattle.own_moves.specs.Owned.{owns_of};
 ghost use Rattle.run_places.specs.Walks.{IsWalkFrom};
 ghost use Rattle.ending_nodes.specs.KeptNodes.{Grow, node_told};
 ghost use Rattle.ending_nodes.specs.Raising.{AreRight};
-ghost use Rattle.all_checker.specs.Nodes.{HaveNext, IsLookOf, lists_told};
+ghost use Rattle.all_checker.specs.Nodes.{HaveNext, IsLookOf, LeadOn};
 
-use ending_nodes::{MappedProgram, Node, Nodes, next_node};
+use ending_nodes::{MappedProgram, Node, next_node};
 use hart_ends::HartEnd;
 use hart_states::{ListedStore, OpeningMemory};
 use pages::OutOfMemory;
@@ -104,53 +104,49 @@ fn walk_hart(
     Ok(walk)
 }
 
-/// Adds the nodes to which the stores lead that may come next.
+/// The nodes to which the stores lead that may come next.
 ///
 /// # Errors
 ///
 /// `OutOfMemory` alone.
-pub(crate) fn add_nodes(
+pub(crate) fn next_nodes(
     alloc: Global,
     program: &MappedProgram<'_>,
-    nodes: &mut Nodes,
     node: &Node,
     offered: &[Vec<ListedStore>],
-) -> Result<(), OutOfMemory>
+) -> Result<Vec<Node>, OutOfMemory>
     requires few { length program.now.maps.now ≤ 64 }
     requires right { AreRight (owns_of program.now.owned.now) program.now.pages.now.memory
         program.now.maps.now }
-    ensures grow { OnOk result (Grow nodes.old.all.items nodes.new.all.items) }
-    ensures added { OnOk result ((h : ℕ) (s : Stored) →
-        Contains (slice_index_or (lists_told offered.now) h []) s →
-        HaveNext (owns_of program.now.owned.now) program.now.steps
-        program.now.pages.now.memory (length program.now.maps.now) nodes.new.all.items node.now
-        s) }
+    ensures { IfOk result (λ v. LeadOn (owns_of program.now.owned.now) program.now.steps
+        program.now.pages.now.memory (length program.now.maps.now) v.items node.now
+        offered.now) }
 {
+    let mut next = Vec::new(alloc);
     for stores in offered {
-        add_next(alloc, program, nodes, node, stores)?;
+        add_next(alloc, program, &mut next, node, stores)?;
     }
-    Ok(())
+    Ok(next)
 }
 
 /// Adds the nodes to which some stores lead.
 fn add_next(
     alloc: Global,
     program: &MappedProgram<'_>,
-    nodes: &mut Nodes,
+    next: &mut Vec<Node>,
     node: &Node,
     stores: &[ListedStore],
 ) -> Result<(), OutOfMemory>
     requires few { length program.now.maps.now ≤ 64 }
     requires right { AreRight (owns_of program.now.owned.now) program.now.pages.now.memory
         program.now.maps.now }
-    ensures grow { OnOk result (Grow nodes.old.all.items nodes.new.all.items) }
+    ensures grow { OnOk result (Grow next.old.items next.new.items) }
     ensures added { OnOk result ((s : Stored) → Contains (listed stores.now) s →
         HaveNext (owns_of program.now.owned.now) program.now.steps
-        program.now.pages.now.memory (length program.now.maps.now) nodes.new.all.items node.now
-        s) }
+        program.now.pages.now.memory (length program.now.maps.now) next.new.items node.now s) }
 {
     for store in stores {
-        add_one(alloc, program, nodes, node, *store)?;
+        add_one(alloc, program, next, node, *store)?;
     }
     Ok(())
 }
@@ -159,20 +155,20 @@ fn add_next(
 fn add_one(
     alloc: Global,
     program: &MappedProgram<'_>,
-    nodes: &mut Nodes,
+    next: &mut Vec<Node>,
     node: &Node,
     store: ListedStore,
 ) -> Result<(), OutOfMemory>
     requires few { length program.now.maps.now ≤ 64 }
     requires right { AreRight (owns_of program.now.owned.now) program.now.pages.now.memory
         program.now.maps.now }
-    ensures grow { OnOk result (Grow nodes.old.all.items nodes.new.all.items) }
+    ensures grow { OnOk result (Grow next.old.items next.new.items) }
     ensures added { OnOk result (
         HaveNext (owns_of program.now.owned.now) program.now.steps
-        program.now.pages.now.memory (length program.now.maps.now) nodes.new.all.items node.now
+        program.now.pages.now.memory (length program.now.maps.now) next.new.items node.now
         (stored_of store)) }
 {
-    let next = next_node(alloc, program, node, store)?;
-    nodes.add(next)?;
+    let one = next_node(alloc, program, node, store)?;
+    next.push(one)?;
     Ok(())
 }

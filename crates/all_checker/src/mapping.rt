@@ -42,7 +42,8 @@ fn right_map(
     hart: u8,
     start: &Hart,
 ) -> Result<Vec<EarlyPoint>, OutOfMemory>
-    ensures { IfOk result (λ v. IsRight (map_of v.items) (owns_of owned.now) pages.now.memory hart) }
+    ensures { IfOk result (λ v. IsRight (map_of v.items) (owns_of owned.now) pages.now.memory
+        hart) }
 {
     let points = map_code(alloc, pages, owned, hart, start)?;
     if is_right(&points, pages, owned, hart) {

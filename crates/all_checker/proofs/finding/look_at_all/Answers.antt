@@ -1,4 +1,4 @@
-use Rattle.std.proofs.Common.{◌≡◌, List, length, sym, ap, ◌∙◌, subst, arith}
+use Rattle.std.proofs.Common.{List, length, sym, ap, ◌∙◌, subst, arith}
 use Rattle.std.specs.Global.{Vec}
 use Rattle.early_reads.specs.declared.early_point.EarlyPoint.{EarlyPoint}
 use Rattle.own_moves.specs.Owned.{owns_of}
@@ -15,8 +15,8 @@ look_at_nodes-requires-clause-few g c =
     omega (arith, e, m, f)
 
 pub look_at_nodes-requires-clause-right : goal.look_at_nodes-requires-clause-right
-look_at_nodes-requires-clause-right g c =
-    let image = c.args.pages.now.memory in
+look_at_nodes-requires-clause-right g c = λ lifetimes within.
+    let image = c.args.guest.now.pages.now.memory in
     subst (λ (ms : List (Vec EarlyPoint)). AreRight (owns_of c.deref-2.result.now) image ms) (sym c.deref-3.ensures.value)
     (subst (λ (os : List OwnDoubleword). AreRight (owns_of os) image c.in_ok-maps.maps.items) (c.deref.ensures.value ∙ sym c.deref-2.ensures.value) c.in_ok-maps.ensures.right)
 
@@ -27,5 +27,5 @@ look_at_nodes-requires-clause-harts g c =
     omega (arith, e, m)
 
 pub look_at_nodes-requires-clause-nobodys : goal.look_at_nodes-requires-clause-nobodys
-look_at_nodes-requires-clause-nobodys g c =
-    subst (λ (os : List OwnDoubleword). AreNobodys (owns_of os) (length c.args.harts.now) c.args.see.now) (sym c.deref-2.ensures.value) (c.in_ok-owned.ensures (length c.args.harts.now))
+look_at_nodes-requires-clause-nobodys g c = λ lifetimes within.
+    subst (λ (os : List OwnDoubleword). AreNobodys (owns_of os) (length c.args.guest.now.harts.now) c.args.guest.now.see.now) (sym c.deref-2.ensures.value) (c.in_ok-owned.ensures (length c.args.guest.now.harts.now))

@@ -13,8 +13,8 @@ use Rattle.all_checker.proofs.looking.add_next.Goals as goal
 pub loop-store-preserved : goal.loop-store-preserved
 loop-store-preserved c =
     let i = c.loop-store.invariant in
-    let old = c.loop-store.nodes.all.items in
-    let more = c.add_one.new.nodes.all.items in
+    let old = c.loop-store.next.items in
+    let more = c.add_one.new.next.items in
     let added = c.in_ok-add_one.ensures in
     let owns = owns_of c.args.program.now.owned.now in
     let k = c.args.program.now.steps in

@@ -8,7 +8,7 @@ use Rattle.all_checker.proofs.looking.add_next.Given as goal
 
 abbrev pub invariant-loop-store : goal.invariant-loop-store
 invariant-loop-store l = record {
-  grow : Grow l.fn.nodes.all.items l.nodes.all.items;
+  grow : Grow l.fn.next.items l.next.items;
   added : (s : Stored) → Contains (listed (take l.store-index l.stores)) s →
-      HaveNext (owns_of l.program.owned.now) l.program.steps l.program.pages.now.memory (length l.program.maps.now) l.nodes.all.items l.node s;
+      HaveNext (owns_of l.program.owned.now) l.program.steps l.program.pages.now.memory (length l.program.maps.now) l.next.items l.node s;
 }

@@ -1,9 +1,14 @@
-use Rattle.std.proofs.Common.{[], ◌∷◌, ◌++◌}
-use Rattle.hart_states.specs.States.{stored_of}
-use Rattle.own_moves.specs.Owned.{owns_of}
+use Rattle.std.proofs.Common.{[], ◌∷◌, refl}
+use Rattle.hart_ends.proofs.Told.{new}
+use Rattle.ending_nodes.specs.KeptNodes.{node_told}
 use Rattle.all_checker.proofs.looking.add_one.Goals as goal
+
+pub returns-clause-grow : goal.returns-clause-grow
+returns-clause-grow c = record { more = c.in_ok-one.one ∷ []; behind = c.in_ok-push.ensures.items }
 
 pub returns-clause-added : goal.returns-clause-added
 returns-clause-added c = λ hs many fresh.
-    let have = c.in_ok-add.ensures.have (owns_of c.args.program.now.owned.now) c.args.program.now.steps c.args.program.now.pages.now.memory hs in
-    (have.0, have.1, λ m served. have.2 (m ++ stored_of c.args.store ∷ []) (c.in_ok-next.ensures hs many fresh m served))
+    let image = c.args.program.now.pages.now.memory in
+    let told = node_told image in
+    let one = c.in_ok-one.one in
+    (told one, new told c.args.next.now.items c.push.new.self.items one (told one) c.in_ok-push.ensures.items refl, c.in_ok-one.ensures hs many fresh)

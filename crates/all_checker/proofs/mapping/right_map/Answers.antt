@@ -1,4 +1,4 @@
-use Rattle.std.proofs.Common.{◌≡◌, List, [], refl, sym, subst, inl}
+use Rattle.std.proofs.Common.{List, refl, sym, subst, inl}
 use Rattle.early_reads.specs.declared.early_point.EarlyPoint.{EarlyPoint}
 use Rattle.early_reads.specs.Checking.{map_of}
 use Rattle.early_reads.specs.EarlyMaps.{IsRight}
