@@ -28,7 +28,7 @@ _dethart() {
         shrink) words='--flat --spurious --harts --pages --rounds --workers --input --progress --seed --see --see-object --plan-number --help' ;;
         merge) words='--fail-on --help' ;;
         fences) words='--flat --spurious --harts --pages --rounds --workers --input --progress --seed --see --see-object --plans --first --steps --fail-on --until --seconds --keep --accept --as-if-fence --help' ;;
-        all) words='--flat --spurious --harts --pages --input --progress --see --see-object --steps --nodes --seconds --keep --fences --help' ;;
+        all) words='--flat --spurious --harts --pages --workers --input --progress --see --see-object --steps --nodes --seconds --keep --fences --help' ;;
         compare) words='--help' ;;
         plan) words='--harts --seed --help' ;;
         draw) words='--flat --spurious --harts --pages --rounds --workers --input --progress --quota --plan --budget --plan-number --seed --see --see-object --from --to --help' ;;

@@ -148,6 +148,7 @@ complete -c dethart -n '__fish_seen_subcommand_from all' -l flat -d 'IMAGE is fl
 complete -c dethart -n '__fish_seen_subcommand_from all' -l spurious -d 'pthread_cond_wait may return without a signal'
 complete -c dethart -n '__fish_seen_subcommand_from all' -l harts -x -d 'Harts: 1 to 64'
 complete -c dethart -n '__fish_seen_subcommand_from all' -l pages -x -d 'Pages of 4096 bytes: 1 to 16384'
+complete -c dethart -n '__fish_seen_subcommand_from all' -l workers -x -d 'Threads: 1 to 16, same outcome'
 complete -c dethart -n '__fish_seen_subcommand_from all' -l input -r -F -d 'What the guest reads'
 complete -c dethart -n '__fish_seen_subcommand_from all' -l progress -d 'Say on standard error how far it is'
 complete -c dethart -n '__fish_seen_subcommand_from all' -l see -x -d 'Bytes that tell endings apart; can be repeated'

@@ -17,6 +17,7 @@ use program_files::{
     CommandFailure, ExitStatus, NamedBytes, Output, ProgramFiles, ProgressLine, World, read_program,
 };
 use std::alloc::Global;
+use std::thread::Threads;
 use weak_commands::keep;
 
 /// Searches for all endings of a guest program, and prints the table of those that were found, and of whether it has others. An execution
@@ -27,7 +28,8 @@ use weak_commands::keep;
 /// `File` where one can't be read, and `NoSpurious`; `Hunt` for the settings and for the image, and `Naming` for bytes that can't be looked at;
 /// then `Unwritten`, and `SinkFailed`; the refusal of memory at any time.
 #[inline(never)]
-pub fn all_command<W: World, S: EndingsSearches, O: Output>(
+pub fn all_command<W: World, S: EndingsSearches, O: Output, R: Threads + Sync>(
+    threads: &R,
     alloc: Global,
     world: &mut W,
     searcher: &S,
@@ -57,7 +59,7 @@ pub fn all_command<W: World, S: EndingsSearches, O: Output>(
     let program = &asked.search.program;
     let mut progress = world.progress(program.progress, asked.nodes, 1, asked.seconds);
     let given = read_program(world, alloc, program)?;
-    let found = search_given(alloc, searcher, &given, asked, &mut progress, out)?;
+    let found = search_given(threads, alloc, searcher, &given, asked, &mut progress, out)?;
     keep(world, alloc, asked.keep, &found.executions)?;
     out.hand_on()?;
     // What was asked for is out.
@@ -67,7 +69,8 @@ pub fn all_command<W: World, S: EndingsSearches, O: Output>(
 }
 
 /// Searches in what the files gave, and prints the table.
-fn search_given<S: EndingsSearches, P: ProgressLine, O: Output>(
+fn search_given<S: EndingsSearches, P: ProgressLine, O: Output, R: Threads + Sync>(
+    threads: &R,
     alloc: Global,
     searcher: &S,
     files: &ProgramFiles,
@@ -102,9 +105,8 @@ fn search_given<S: EndingsSearches, P: ProgressLine, O: Output>(
             Err(refused_for(alloc, &files.image, hunt, fault))
         }
         None => {
-            let (image, input) = (files.image.as_slice(), files.input.as_slice());
             let mut looking = LookingOn { progress };
-            let answer = searcher.search(alloc, image, input, settings, &mut looking, out);
+            let answer = searcher.search(threads, alloc, files, settings, &mut looking, out);
             looking.progress.end();
             match answer {
                 Ok(found) => Ok(found),

@@ -1,3 +1,4 @@
+ghost use denote.Param.Send.{IsSync};
 ghost use Rattle.std.specs.Prelude.{◌≡◌, ◌⊎◌, ◌<◌, ◌++◌, ⊤, ℕ, Err, IfErr, IfOk, List, None, OnErr, Some, false};
 ghost use Rattle.endings_finder.specs.AllEndings.{AreKept, IsSearched};
 ghost use Rattle.endings_finder.specs.declared.settings.EndingsSettings.{EndingsSettings as AskedFor};
@@ -16,7 +17,9 @@ ghost use Rattle.program_files.specs.Failures.{IsUnprinted};
 use endings_finder::{EndingsObserver, EndingsSettings, FoundEndings, find_endings};
 use host_io::Sink;
 use hunter::HuntError;
+use program_files::ProgramFiles;
 use std::alloc::Global;
+use std::thread::Threads;
 
 /// Who searches for all endings. No definition says which endings are found where there may be others, nor what nodes and time have to do
 /// with that: so it is a relation, which a command can only get by a call with them.
@@ -29,31 +32,36 @@ pub trait EndingsSearches {
     /// # Errors
     ///
     /// As `find_endings` of endings_finder.
-    fn search<S: Sink, O: EndingsObserver>(
+    fn search<S: Sink, O: EndingsObserver, R: Threads + Sync>(
         &self,
+        rt: &R,
         alloc: Global,
-        image: &[u8],
-        input: &[u8],
+        files: &ProgramFiles,
         settings: EndingsSettings,
         observer: &mut O,
         out: &mut S,
     ) -> Result<FoundEndings, HuntError>
-        ensures finds { IfOk result (λ f. IsSearched settings image.now input.now f.table ×
+        requires sync { IsSync R.row }
+        ensures finds { IfOk result (λ f.
+            IsSearched settings files.now.image.items files.now.input.items f.table ×
             AreKept settings.keeps f.table.endings.items f.executions.items ×
-            finds settings image.now input.now f.table f.executions.items ×
+            finds settings files.now.image.items files.now.input.items f.table
+            f.executions.items ×
             (S.took out.new ≡ S.took out.old ++ table_text f.table)) }
         ensures begun { OnErr result ((S.took out.new ≡ S.took out.old) ⊎
-            ((t : Table) × (es : List Saved) × IsSearched settings image.now input.now t ×
-            AreKept settings.keeps t.endings.items es × finds settings image.now input.now t es ×
+            ((t : Table) × (es : List Saved) ×
+            IsSearched settings files.now.image.items files.now.input.items t ×
+            AreKept settings.keeps t.endings.items es ×
+            finds settings files.now.image.items files.now.input.items t es ×
             BeganText (S.took out.old) (S.took out.new) (table_text t))) }
         ensures unprinted { IfErr result (λ e.
             IsUnprinted (hunt_number e) (S.took out.old) (S.took out.new)) }
         ensures settings { (e : Refusal) → hunt_fault settings.hunt ≡ Some e → result ≡ Err e }
         ensures errors { hunt_fault settings.hunt ≡ None → IfErr result (λ e.
-            IsHuntReason settings.hunt image.now e ⊎
+            IsHuntReason settings.hunt files.now.image.items e ⊎
             ((e ≡ Run refusals.SinkFailed) × (S.failures out.old < S.failures out.new))) }
         ensures image { (cause : ImageCause) → hunt_fault settings.hunt ≡ None →
-            IsImageCause settings.hunt image.now cause →
+            IsImageCause settings.hunt files.now.image.items cause →
             (result ≡ Err (Run (refusals.Image cause))) ⊎
             (result ≡ Err (Run refusals.OutOfMemory)) }
         ensures ranges { IfOk result (λ _. has_bad_range settings.hunt ≡ false) };
@@ -66,15 +74,23 @@ pub struct EndingsSearcher;
 impl EndingsSearches for EndingsSearcher {
     ghost finds = { λ _ _ _ _ _. ⊤ };
 
-    fn search<S: Sink, O: EndingsObserver>(
+    fn search<S: Sink, O: EndingsObserver, R: Threads + Sync>(
         &self,
+        rt: &R,
         alloc: Global,
-        image: &[u8],
-        input: &[u8],
+        files: &ProgramFiles,
         settings: EndingsSettings,
         observer: &mut O,
         out: &mut S,
     ) -> Result<FoundEndings, HuntError> {
-        find_endings(alloc, image, input, settings, observer, out)
+        find_endings(
+            rt,
+            alloc,
+            &files.image,
+            &files.input,
+            settings,
+            observer,
+            out,
+        )
     }
 }

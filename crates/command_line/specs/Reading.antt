@@ -167,8 +167,7 @@ pub record HoldsProgram (rows : List Row) (program : Program) : Type 0 where
   pub harts : program.harts ≡ number_of 32 (codes "harts") rows
   pub pages : program.pages ≡ number_of 32 (codes "pages") rows
   pub rounds : program.rounds ≡ number_of 32 (codes "rounds") rows
-  -- one where the subcommand takes no number of workers
-  pub workers : program.workers ≡ unwrap_or (number_at 32 (codes "workers") rows) 1
+  pub workers : program.workers ≡ number_of 32 (codes "workers") rows
   pub input : option_map (λ s. s.now) program.input ≡ first_of (codes "input") rows
   pub progress : program.progress ≡ is_set (codes "progress") rows
 

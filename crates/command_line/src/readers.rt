@@ -27,7 +27,7 @@ fn program_of<'a>(matches: &ArgMatches<'a>) -> Program<'a>
         harts: number_of(matches, "harts"),
         pages: number_of(matches, "pages"),
         rounds: number_of(matches, "rounds"),
-        workers: number_given(matches, "workers").unwrap_or(1),
+        workers: number_of(matches, "workers"),
         input: text_given(matches, "input"),
         progress: is_set(matches, "progress"),
     }

@@ -332,7 +332,7 @@ pub struct Fences<'a> {
 /// The words after `all`.
 #[derive(Drop)]
 pub struct AllEndings<'a> {
-    /// The guest, and what tells its endings apart. Rounds, workers and a seed can't be given.
+    /// The guest, and what tells its endings apart. Rounds and a seed can't be given.
     pub search: Search<'a>,
     /// How many instructions of a hart are followed.
     pub steps: u32,

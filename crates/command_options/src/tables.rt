@@ -243,6 +243,7 @@ const FENCES: &[Row<'static>] = &[
 ];
 
 const ALL: &[Row<'static>] = &[
+    WORKERS,
     INPUT,
     PROGRESS,
     SEE_ENDINGS,

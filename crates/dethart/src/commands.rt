@@ -60,7 +60,7 @@ where
         Command::Gdb(asked) => serve_debugger(rt, threads, world, asked),
         Command::Hunt(asked) => hunt_command(threads, alloc, world, asked, out),
         Command::Fences(asked) => fences_command(threads, alloc, world, asked, out),
-        Command::All(asked) => all_command(alloc, world, &EndingsSearcher, asked, out),
+        Command::All(asked) => all_command(threads, alloc, world, &EndingsSearcher, asked, out),
         Command::Shrink(asked) => shrink_command(threads, alloc, world, asked, out),
         Command::Merge(asked) => merge_command(alloc, world, asked, out),
         Command::Compare(asked) => compare_command(alloc, world, asked, out),

@@ -5,7 +5,6 @@ ghost use Rattle.ending_judge.specs.JudgedEndings.{ending_in, stop_of};
 ghost use Rattle.endings_finder.specs.AllEndings.{AreAllowed, HasAll, guest_from, scripted_image};
 ghost use Rattle.endings_finder.specs.Checked.{AreNews};
 ghost use Rattle.endings_finder.specs.Fences.{IsNeedOf, IsToldFence};
-ghost use Rattle.endings_table.specs.declared.others.Others.TheVariants.{Absent};
 ghost use Rattle.hart_ends.specs.Told.{bytes_told};
 
 use crate::guest::Guest;
@@ -18,17 +17,18 @@ use endings_table::{FenceNeed, FoundEnding, HartEnd, Need, Others};
 use hart_step::Stop;
 use machine::load;
 use pages::OutOfMemory;
+use std::thread::Threads;
 
-/// Which of some fences a guest needs, if that is asked and it has no other endings than these. Where no fence stands, nothing is told.
+/// Which of some fences a guest needs, if that is asked of one that has no other endings than these. Where no fence stands, nothing is told.
 ///
 /// # Errors
 ///
 /// `OutOfMemory` alone.
-pub(crate) fn needs_of<O: EndingsObserver>(
+pub(crate) fn needs_of<O: EndingsObserver, R: Threads + Sync>(
+    rt: &R,
     guest: &Guest<'_>,
     reach: Reach,
     endings: &[FoundEnding],
-    others: Others,
     asked: bool,
     fences: &[u64],
     observer: &mut O,
@@ -36,21 +36,21 @@ pub(crate) fn needs_of<O: EndingsObserver>(
     requires loaded { guest.now.program.now ≡ scripted_image guest.now.scripted }
     requires allowed { AreAllowed (guest_from guest.now.program.now guest.now.scripted)
         guest.now.ranges.now endings.now }
-    requires all { others ≡ Absent → HasAll (guest_from guest.now.program.now guest.now.scripted)
+    requires all { IsTrue asked → HasAll (guest_from guest.now.program.now guest.now.scripted)
         guest.now.ranges.now reach.steps endings.now }
     ensures unasked { asked ≡ false → IfOk result (λ ns. ns.items ≡ []) }
     ensures told { IfOk result (λ ns. All (IsToldFence reach.steps guest.now.program.now
         guest.now.scripted.input.now guest.now.scripted.harts guest.now.ranges.now) ns.items) }
 {
     let mut needs = Vec::new(guest.alloc);
-    if !asked || others != Others::Absent {
+    if !asked {
         return Ok(needs);
     }
     for pc in fences {
         if guest.program.has_fence(*pc) {
             let image = image_again(guest)?;
             let program = Program::without(guest.alloc, image, *pc)?;
-            let need = need_without(guest, &program, reach, endings, observer)?;
+            let need = need_without(rt, guest, &program, reach, endings, observer)?;
             needs.push(FenceNeed { pc: *pc, need })?;
         }
     }
@@ -70,7 +70,8 @@ fn image_again(guest: &Guest<'_>) -> Result<Image, OutOfMemory>
 }
 
 /// Whether a guest with no other endings than these needs the fence that a program is without.
-fn need_without<O: EndingsObserver>(
+fn need_without<O: EndingsObserver, R: Threads + Sync>(
+    rt: &R,
     guest: &Guest<'_>,
     program: &Program,
     reach: Reach,
@@ -97,7 +98,7 @@ fn need_without<O: EndingsObserver>(
         return Ok(need);
     }
     let (why, owned) = (proposals.why, &proposals.owned);
-    match others_than(&fenceless, reach, endings, why, owned, observer)? {
+    match others_than(rt, &fenceless, reach, endings, why, owned, observer)? {
         Others::Absent => Ok(Need::Unneeded),
         Others::Possible(why) => Ok(Need::Unknown(why)),
     }

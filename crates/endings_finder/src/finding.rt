@@ -1,4 +1,4 @@
-ghost use Rattle.std.specs.Prelude.{◌≡◌, ◌⊎◌, ℕ, [], All, Err, IfErr, IfOk, List, None, Some, false};
+ghost use Rattle.std.specs.Prelude.{◌≡◌, ◌⊎◌, ℕ, [], All, Err, IfErr, IfOk, IsTrue, List, None, Some, false};
 ghost use Rattle.endings_table.specs.declared.others.Others.TheVariants.{Absent};
 ghost use Rattle.host_io.specs.declared.load_error.LoadError.{LoadError as ImageCause};
 ghost use Rattle.host_io.specs.declared.error.RunError.TheVariants as refusals;
@@ -25,6 +25,7 @@ use hunter::{HuntError, check_hunt, check_ranges};
 use machine::load;
 use pages::OutOfMemory;
 use std::alloc::Global;
+use std::thread::Threads;
 
 /// What a search for all endings found.
 #[derive(Drop)]
@@ -47,13 +48,14 @@ struct Findings {
 }
 
 /// Searches for all endings of a guest, and writes the table of those that were found, and of whether it has others. Each was put to the
-/// judge of endings. The observer looks on.
+/// judge of endings. The check of others is shared among the workers of the settings. The observer looks on.
 ///
 /// # Errors
 ///
 /// The refusals of the settings, then of the image, then of the ranges; `OutOfMemory`; `SinkFailed`. Nothing is written before the search is
 /// over.
-pub fn find_endings<S: Sink, O: EndingsObserver>(
+pub fn find_endings<S: Sink, O: EndingsObserver, R: Threads + Sync>(
+    rt: &R,
     alloc: Global,
     image: &[u8],
     input: &[u8],
@@ -76,7 +78,7 @@ pub fn find_endings<S: Sink, O: EndingsObserver>(
     // No search looks at a range that is empty, or not all in memory.
     ensures ranges { IfOk result (λ _. has_bad_range settings.hunt ≡ false) }
 {
-    let findings = searched(alloc, image, input, &settings, observer)?;
+    let findings = searched(rt, alloc, image, input, &settings, observer)?;
     let found = told(findings, settings);
     write_endings(alloc, &found.table, out)?;
     Ok(found)
@@ -124,7 +126,8 @@ fn told(findings: Findings, settings: EndingsSettings) -> FoundEndings
 }
 
 /// What a search finds. The image is loaded once, but for each fence that is looked at.
-fn searched<O: EndingsObserver>(
+fn searched<O: EndingsObserver, R: Threads + Sync>(
+    rt: &R,
     alloc: Global,
     image: &[u8],
     input: &[u8],
@@ -166,12 +169,13 @@ fn searched<O: EndingsObserver>(
         ranges: &hunt.header.ranges,
         keeps: settings.keeps,
     };
-    let findings = findings_of(&guest, settings, observer)?;
+    let findings = findings_of(rt, &guest, settings, observer)?;
     Ok(findings)
 }
 
 /// What a search in a guest finds.
-fn findings_of<O: EndingsObserver>(
+fn findings_of<O: EndingsObserver, R: Threads + Sync>(
+    rt: &R,
     guest: &Guest<'_>,
     settings: &EndingsSettings,
     observer: &mut O,
@@ -198,13 +202,21 @@ fn findings_of<O: EndingsObserver>(
         fences,
     } = proposals;
     let endings = confirmed.endings.as_slice();
-    let others = others_than(guest, reach, endings, why, &owned, observer)?;
-    let asked = settings.fences;
-    let needs = needs_of(guest, reach, endings, others, asked, &fences, observer)?;
+    let others = others_than(rt, guest, reach, endings, why, &owned, observer)?;
+    let asked = are_asked(settings, others);
+    let needs = needs_of(rt, guest, reach, endings, asked, &fences, observer)?;
     Ok(Findings {
         nodes,
         confirmed,
         others,
         fences: needs,
     })
+}
+
+/// Whether it is asked which fences a guest needs that may have such others: only where it has none is known what is new without a fence.
+fn are_asked(settings: &EndingsSettings, others: Others) -> bool
+    ensures unasked { settings.now.fences ≡ false → result ≡ false }
+    ensures absent { IsTrue result → others ≡ Absent }
+{
+    settings.fences && others == Others::Absent
 }

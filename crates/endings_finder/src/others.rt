@@ -10,22 +10,25 @@ use crate::guest::{Guest, searched_ranges};
 use crate::searching::EndingsObserver;
 use crate::settings::EndingsSettings;
 use all_checker::{
-    Bounds, Found, HartEnd as CheckedEnd, ListsObserver, OwnDoubleword, Reason, TableEnding,
-    find_all,
+    Bounds, Found, Guest as CheckedGuest, HartEnd as CheckedEnd, ListsObserver, OwnDoubleword,
+    Reason, TableEnding, find_all,
 };
 use endings_table::{FoundEnding, HartEnd, Others, Why};
 use pages::OutOfMemory;
+use std::thread::Threads;
 
 /// How many places of harts' runs the checker looks at for each list of stores that it may look through.
 const PLACES: usize = 15;
 
-/// How far the checker looks.
+/// How far the checker looks, and who looks.
 #[derive(Clone, Copy)]
 pub(crate) struct Reach {
     /// So many instructions of each hart.
     pub(crate) steps: u32,
     /// So many lists of stores.
     pub(crate) nodes: u32,
+    /// So many workers at the same time, on which nothing that is found depends.
+    pub(crate) workers: u32,
 }
 
 impl Reach {
@@ -36,6 +39,7 @@ impl Reach {
         Reach {
             steps: settings.steps,
             nodes: settings.nodes,
+            workers: settings.hunt.workers,
         }
     }
 }
@@ -61,7 +65,8 @@ impl<O: EndingsObserver> ListsObserver for Looking<'_, O> {
 /// # Errors
 ///
 /// `OutOfMemory` alone.
-pub(crate) fn others_than<O: EndingsObserver>(
+pub(crate) fn others_than<O: EndingsObserver, R: Threads + Sync>(
+    rt: &R,
     guest: &Guest<'_>,
     reach: Reach,
     endings: &[FoundEnding],
@@ -90,13 +95,18 @@ pub(crate) fn others_than<O: EndingsObserver>(
         observer,
         endings: endings.len() as u64,
     };
+    let checked = CheckedGuest {
+        pages: &memory,
+        harts: &harts,
+        see: &see,
+    };
     match find_all(
+        rt,
         guest.alloc,
-        &memory,
-        &harts,
-        &see,
+        &checked,
         owned,
         bounds,
+        reach.workers,
         &mut looking,
     )? {
         Found::All(table) => Ok(others_by(endings, &table)),

@@ -6,7 +6,8 @@ use hunter::HuntSettings;
 /// What a search for all endings is asked for.
 #[derive(Drop)]
 pub struct EndingsSettings {
-    /// The guest, and the bytes that are looked at: as of a hunt. Its rounds, its workers and its numbers are not looked at.
+    /// The guest, and the bytes that are looked at: as of a hunt. Its rounds and its numbers are not looked at. Its workers look through
+    /// the nodes of the check; the search is one thread's.
     pub hunt: HuntSettings,
     /// How many instructions of each hart are followed.
     pub steps: u32,

@@ -45,9 +45,9 @@ returns-clause-begun g c =
           keeps = c.is_some.ensures;
           fences = refl;
         };
-        searched = rw (c.as_slice-image.ensures.value, c.as_slice-input.ensures.value) at t.2;
+        searched = t.2;
         kept = t.3;
-        found = rw (c.as_slice-image.ensures.value, c.as_slice-input.ensures.value) at t.4;
+        found = t.4;
       },
       t.5,
     )) c.in-Err.ensures.begun
@@ -69,8 +69,8 @@ returns-clause-errors g c =
       settings = s;
       numbers = numbers;
       refused = finder_told asked.search (hunt_fault s) s image _ e good c.in-Err.ensures.settings
-          (λ none. refusal_so false s image _ _ e (λ more. inl more) (rw c.as_slice-image.ensures.value at (c.in-Err.ensures.errors none)))
-          (rw c.as_slice-image.ensures.value at c.in-Err.ensures.image);
+          (λ none. refusal_so false s image _ _ e (λ more. inl more) (c.in-Err.ensures.errors none))
+          c.in-Err.ensures.image;
     }))
 
 pub returns-in-Ok-clause-searches : goal.returns-in-Ok-clause-searches
@@ -98,9 +98,9 @@ returns-in-Ok-clause-searches g c =
           keeps = c.is_some.ensures;
           fences = refl;
         };
-        searched = rw (c.as_slice-image.ensures.value, c.as_slice-input.ensures.value) at h.0;
+        searched = h.0;
         kept = h.1;
-        found = rw (c.as_slice-image.ensures.value, c.as_slice-input.ensures.value) at h.2;
+        found = h.2;
       },
       h.3,
       refl,

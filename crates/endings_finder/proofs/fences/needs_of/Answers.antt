@@ -22,3 +22,7 @@ loop-pc-preserved g c =
           subst (All IsTold) (sym pushed) (All-push IsTold c.loop-pc.needs.items (record { pc = pc; need = need }) c.loop-pc.invariant told)
       | else-has_fence w ↦ subst (λ (v : Vec FenceNeed). All IsTold v.items) (sym w.needs-is) c.loop-pc.invariant
     ]
+
+-- src/fences.rt:53:24
+pub need_without-requires-clause-all : goal.need_without-requires-clause-all
+need_without-requires-clause-all g c κs within = c.requires.all c.if-not-asked.false

@@ -9,7 +9,7 @@ use Rattle.endings_finder.proofs.Whole.{found_whole}
 use Rattle.endings_finder.proofs.others.others_than.Goals as goal
 
 pub find_all-requires-clause-fresh : goal.find_all-requires-clause-fresh
-find_all-requires-clause-fresh g c =
+find_all-requires-clause-fresh g c = λ lifetimes within.
     let n = c.args.guest.now.scripted.harts in
     fresh_as c.deref.result.now c.args.guest.now.program.now.entry n n (c.deref.ensures.value ∙ c.in_ok-harts.ensures.harts)
 

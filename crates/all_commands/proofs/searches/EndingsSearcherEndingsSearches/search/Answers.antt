@@ -21,12 +21,12 @@ returns-clause-begun g c =
       b.is_text.kept,
       tt,
       subst (λ (t : List ℕ). BeganText old new t) b.is_text.is_text b.began,
-    )) h) (begun _ c.find_endings.ensures.writes)
+    )) h) (begun _ (rw (c.deref.ensures.value, c.deref-2.ensures.value) at c.find_endings.ensures.writes))
 
 pub returns-clause-unprinted : goal.returns-clause-unprinted
 returns-clause-unprinted g c =
-    unprinted hunt_number (Run refusals.OutOfMemory) (Run refusals.SinkFailed) c.find_endings.result refl refl c.find_endings.ensures.writes
+    unprinted hunt_number (Run refusals.OutOfMemory) (Run refusals.SinkFailed) c.find_endings.result refl refl (rw (c.deref.ensures.value, c.deref-2.ensures.value) at c.find_endings.ensures.writes)
 
 pub returns-clause-errors : goal.returns-clause-errors
-returns-clause-errors g c = λ none. why_cut (hunt_fault c.args.settings.hunt) (IsHuntReason c.args.settings.hunt c.args.image.now) c.find_endings.result
-    c.find_endings.ensures.writes (inl refl) none
+returns-clause-errors g c = λ none. why_cut (hunt_fault c.args.settings.hunt) (IsHuntReason c.args.settings.hunt c.args.files.now.image.items) c.find_endings.result
+    (rw (c.deref.ensures.value, c.deref-2.ensures.value) at c.find_endings.ensures.writes) (inl refl) none
